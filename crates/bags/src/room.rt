@@ -1,0 +1,75 @@
+//! The room of a sequence: `len` elements are held, at its front.
+ghost use lib.ListN.{length, set, take};
+ghost use mathlib.Core.Bool.{cond};
+ghost use mathlib.Core.List.{[], _∷_, _++_};
+ghost use mathlib.Core.Path.{_≡_};
+ghost use Prim.Native.Nat.{_+_, _-_, _<_, _≤_};
+ghost use Rattle.bags.specs.Equality.{Counts, Removes};
+ghost use Rattle.std.specs.Holes.{removed};
+use crate::parts::earliest;
+use crate::parts::occurrences;
+
+/// Room for 64 elements. A struct of its own, since no array is lent to be changed out of a struct with an invariant.
+#[derive(Drop)]
+pub struct Room<T> {
+    pub cells: [T; 64],
+}
+
+impl<T: Copy> Room<T> {
+    /// Writes `x` behind the `len` elements that are held.
+    pub fn write_behind(&mut self, len: usize, x: T)
+        requires { ⌜ len < length (now self .cells) ⌝ ∗ ⌜ length (now self .cells) ≡ 64 ⌝ }
+        ensures long { λ _. ⌜ length (now (self .exit) .cells) ≡ length (now (self .entry) .cells) ⌝ }
+        ensures after { λ _. ⌜ take (len + 1) (now (self .exit) .cells) ≡ take len (now (self .entry) .cells) ++ x ∷ [] ⌝ }
+    {
+        self.cells[len] = x;
+    }
+
+    /// Writes `x` over the element at the number `i` of the `len` that are held.
+    pub fn write_over(&mut self, len: usize, i: usize, x: T)
+        requires { ⌜ i < len ⌝ ∗ ⌜ len ≤ length (now self .cells) ⌝ ∗ ⌜ length (now self .cells) ≡ 64 ⌝ }
+        ensures long { λ _. ⌜ length (now (self .exit) .cells) ≡ length (now (self .entry) .cells) ⌝ }
+        ensures after { λ _. ⌜ take len (now (self .exit) .cells) ≡ set (take len (now (self .entry) .cells)) i x ⌝ }
+    {
+        self.cells[i] = x;
+    }
+
+    /// Moves the elements behind the number `i` up by one, so that one less is held.
+    fn close_gap(&mut self, len: usize, i: usize)
+        requires { ⌜ i < len ⌝ ∗ ⌜ len ≤ length (now self .cells) ⌝ ∗ ⌜ length (now self .cells) ≡ 64 ⌝ }
+        ensures long { λ _. ⌜ length (now (self .exit) .cells) ≡ length (now (self .entry) .cells) ⌝ }
+        ensures after { λ _. ⌜ take (len - 1) (now (self .exit) .cells) ≡ removed (take len (now (self .entry) .cells)) i ⌝ }
+    {
+        for k in i..len - 1 {
+            self.cells[k] = self.cells[k + 1];
+        }
+    }
+}
+
+impl<T: Copy + PartialEq<T>> Room<T> {
+    /// How many of the `len` elements that are held equal `x`.
+    pub fn count(&self, len: usize, x: T) -> usize
+        requires { ⌜ len ≤ length (now self .cells) ⌝ ∗ ⌜ length (now self .cells) ≡ 64 ⌝ }
+        ensures { λ r. ⌜ Counts (λ y b. T·PartialEq .equals y x b) (take len (now (self .entry) .cells)) r ⌝ }
+    {
+        let cells = &self.cells[..];
+        occurrences(&cells[0..len], x)
+    }
+
+    /// Takes out the earliest of the `len` elements that equals `x`, and says whether there was one.
+    pub fn remove(&mut self, len: usize, x: T) -> bool
+        requires { ⌜ len ≤ length (now self .cells) ⌝ ∗ ⌜ length (now self .cells) ≡ 64 ⌝ }
+        ensures long { λ _. ⌜ length (now (self .exit) .cells) ≡ length (now (self .entry) .cells) ⌝ }
+        ensures some { λ r. ⌜ cond r 1 0 ≤ len ⌝ }
+        ensures after { λ r. ⌜ Removes (λ y b. T·PartialEq .equals y x b) (take len (now (self .entry) .cells)) r (take (cond r (len - 1) len) (now (self .exit) .cells)) ⌝ }
+    {
+        let cells = &self.cells[..];
+        match earliest(&cells[0..len], x) {
+            Some(i) => {
+                self.close_gap(len, i);
+                true
+            }
+            None => false,
+        }
+    }
+}

@@ -1,0 +1,6 @@
+mod Paired
+mod Counting
+mod Steps
+mod Reach
+mod Ends
+mod Decides

@@ -1,0 +1,6 @@
+use Rattle.places.specs.Laws.{bag-placed}
+use Rattle.pairing.proofs.Decides.{fails-left}
+use Rattle.pairing.proofs.search.larger_left.Needs as need
+
+pub returns : need.returns
+returns c = fails-left (c .marked .result) (bag-placed (c .args .left .now)) (bag-placed (c .args .right .now)) (c .pre) (c .marked .ensures)

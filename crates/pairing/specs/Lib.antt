@@ -1,0 +1,5 @@
+pub mod Closure
+pub mod Outnumbering
+pub mod Refusals
+pub mod Answers
+pub mod Search
