@@ -15,9 +15,9 @@ use Rattle.places.specs.Sets.{Subset, PlaceRelation, everywhere, tokens-on, siz
 use Rattle.places.specs.Laws.{single-same, tokens-empty, tokens-sum, tokens-le, tokens-at}
 use Rattle.pairing.specs.Closure.{lefts, rights, AllIn, Pairing}
 use Rattle.pairing.specs.Outnumbering.{beside, Outnumbers}
-use Rattle.pairing.specs.Search.{starts, ends, left-end, right-end, Held, Stuck, Blocked, Added, Going, Reached}
+use Rattle.pairing.specs.Search.{starts, ends, left-end, right-end, Held, Stuck, Blocked, Going, Reached}
 use Rattle.pairing.proofs.Counting.{carry, some-is}
-use Rattle.pairing.proofs.Steps.{single-le}
+use Rattle.pairing.proofs.Steps.{single-le, Placed-on}
 
 lefts-are : (xs : List (ℕ × ℕ)) (p : ℕ) → lefts xs p ≡ starts xs p
 lefts-are [] p = refl
@@ -111,7 +111,7 @@ short-of {R} {m} {n} {xs} {p} {rest} {free} few g l some = omega (arith, few, le
     sum = tokens-le 16 everywhere everywhere (lefts xs ⊕ rest) m (λ i l. omega (arith, lefts-are xs i, g .lefts-and-rest i))
 
 -- one token of p more is paired
-pub going-on : {R : PlaceRelation} {m n : Bag} {xs ys : List (ℕ × ℕ)} {p : ℕ} {rest free left : Bag} → 0 < rest p → Going R m n xs rest free p → Added R xs free p ys left → Going R m n ys (rest ⊖ single p) left p
+pub going-on : {R : PlaceRelation} {m n : Bag} {xs ys : List (ℕ × ℕ)} {p : ℕ} {rest free left : Bag} → 0 < rest p → Going R m n xs rest free p → Placed-on R xs free p ys left → Going R m n ys (rest ⊖ single p) left p
 going-on {R} {m} {n} {xs} {ys} {p} {rest} {free} {left} some g a = record {
   held = a .held;
   lefts-and-rest = λ k. omega (arith, a .starts-more k, single-le rest p k some, g .lefts-and-rest k);

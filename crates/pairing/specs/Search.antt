@@ -1,14 +1,14 @@
 -- What the search for a pairing knows while it works. Assumes nothing.
 -- xs are the pairs made so far, free the right tokens that are in no pair, seen the right places that were tried.
 use mathlib.Core.Path.{_≡_}
-use mathlib.Core.List.{List}
+use mathlib.Core.List.{List, [], _∷_, _++_}
 use mathlib.Core.Logic.{_⊎_}
 use mathlib.Core.Bool.{Bool, true, false, cond}
 use Prim.Native.Nat.{ℕ, _+_, _<_, _≤_}
 use lib.Dec.{eqb}
 use lib.ListN.{length, getD}
 use Rattle.std.specs.shelf.Lists.{countBy}
-use Rattle.places.specs.Bags.{Bag}
+use Rattle.places.specs.Bags.{Bag, single, _⊖_}
 use Rattle.places.specs.Sets.{Subset, PlaceRelation, nowhere, size}
 use Rattle.pairing.specs.Outnumbering.{Outnumbers}
 
@@ -55,16 +55,26 @@ pub record Stuck (R : PlaceRelation) (xs : List (ℕ × ℕ)) (free : Bag) (seen
   pub taken : free q ≡ 0
   pub holders : Tried R xs seen q 16
 
--- pairs were moved, none that ends at a seen place, so that q has a free token
+-- pairs were moved, none that ends at a seen place but q, so that q has a free token
 pub record Opened (R : PlaceRelation) (xs : List (ℕ × ℕ)) (free : Bag) (seen : Subset) (q : ℕ) (ys : List (ℕ × ℕ)) (left : Bag) : Type 0 where
   pub long : length ys ≡ length xs
   pub held : Held R ys
   pub starts-same : (p : ℕ) → starts ys p ≡ starts xs p
   pub sums : (r : ℕ) → ends ys r + left r ≡ ends xs r + free r
-  pub frame : (j : ℕ) → j < length xs → seen (right-end xs j) ≡ true → getD ys j (0, 0) ≡ getD xs j (0, 0)
+  pub frame : (j : ℕ) → j < length xs → seen (right-end xs j) ≡ true → (right-end xs j ≡ q → ⊥) → getD ys j (0, 0) ≡ getD xs j (0, 0)
   pub there : 0 < left q
 
--- nothing was moved, and each place that was seen on the way is stuck
+-- the pairs of q were tried for the places below k in vain: nothing was moved, and each place that was seen on the
+-- way is stuck
+pub record Trying (R : PlaceRelation) (xs : List (ℕ × ℕ)) (free : Bag) (seen : Subset) (q : ℕ) (ys : List (ℕ × ℕ)) (left : Bag) (seen-after : Subset) (k : ℕ) : Type 0 where
+  pub same-pairs : ys ≡ xs
+  pub same-free : left ≡ free
+  pub grows : (r : ℕ) → seen r ≡ true → seen-after r ≡ true
+  pub fewer : unseen seen-after ≤ unseen seen
+  pub tried : Tried R xs seen-after q k
+  pub stuck : (r : ℕ) → seen-after r ≡ true → seen r ≡ false → Stuck R xs free seen-after r
+
+-- no token of q can be made free: nothing was moved, and q and each place that was seen on the way are stuck
 pub record Shut (R : PlaceRelation) (xs : List (ℕ × ℕ)) (free : Bag) (seen : Subset) (q : ℕ) (ys : List (ℕ × ℕ)) (left : Bag) (seen-after : Subset) : Type 0 where
   pub same-pairs : ys ≡ xs
   pub same-free : left ≡ free
@@ -86,12 +96,14 @@ pub record Room (R : PlaceRelation) (xs : List (ℕ × ℕ)) (free : Bag) (p q :
   pub fits : R p q ≡ true
   pub opened : Opened R xs free nowhere q ys left
 
--- one more pair, with the left end p
+-- one more pair, with the left end p: a token of q was made free, and taken
 pub record Added (R : PlaceRelation) (xs : List (ℕ × ℕ)) (free : Bag) (p : ℕ) (ys : List (ℕ × ℕ)) (left : Bag) : Type 0 where
-  pub held : Held R ys
-  pub one-more : length ys ≡ length xs + 1
-  pub starts-more : (k : ℕ) → starts ys k ≡ starts xs k + cond (eqb p k) 1 0
-  pub sums : (r : ℕ) → ends ys r + left r ≡ ends xs r + free r
+  pub q : ℕ
+  pub opened-pairs : List (ℕ × ℕ)
+  pub opened-free : Bag
+  pub room : Room R xs free p q opened-pairs opened-free
+  pub pair-more : ys ≡ opened-pairs ++ (p, q) ∷ []
+  pub token-less : left ≡ opened-free ⊖ single q
 
 -- the pairs are made of the tokens of m and n that are no longer in rest and free, and the places below p are done
 pub record Going (R : PlaceRelation) (m n : Bag) (xs : List (ℕ × ℕ)) (rest free : Bag) (p : ℕ) : Type 0 where

@@ -3,16 +3,18 @@
 ghost use lib.Dec.{ltb};
 ghost use lib.ListN.{length, getD, set};
 ghost use mathlib.Core.Bool.{true, false};
+ghost use mathlib.Core.List.{[], _∷_, _++_};
 ghost use mathlib.Core.Path.{_≡_};
 ghost use Prim.Native.Nat.{ℕ, _+_, _-_, _<_, _≤_};
 ghost use Rattle.bags.specs.Items.{items};
 ghost use Rattle.pairing.specs.Answers.{Decided};
 ghost use Rattle.pairing.specs.Closure.{Pairing};
-ghost use Rattle.pairing.specs.Search.{left-end, unseen, Held, NoHolder, Holder, Opened, Shut, Blocked, Room, Added, Reached, Fails};
+ghost use Rattle.pairing.specs.Search.{left-end, unseen, Held, NoHolder, Holder, Opened, Shut, Trying, Blocked, Room, Added, Reached, Fails};
 ghost use Rattle.places.specs.Bags.{single, _⊕_, _⊖_};
 ghost use Rattle.places.specs.Meanings.{bag-of, relation-of, set-of};
 ghost use Rattle.places.specs.Sets.{size};
 ghost use Rattle.std.specs.Options.{Cases as BySome};
+ghost use Rattle.std.specs.Orderings.{When};
 ghost use Rattle.std.specs.Results.{Cases};
 ghost use Rattle.std.specs.declared.result.Result.the-variants.{Err};
 use bags::Sequence;
@@ -34,6 +36,25 @@ fn holder(relation: &Relation, pairs: &[(u8, u8)], q: u8, r: u8) -> Option<usize
     None
 }
 
+/// Lets the pair at the number `j` end at `r`.
+fn move_end(pairs: &mut Sequence<(u8, u8)>, j: usize, r: u8)
+    requires { ⌜ j < length (items (now pairs)) ⌝ }
+    ensures { λ _. ⌜ items (now (pairs .exit)) ≡ set (items (now (pairs .entry))) j (left-end (items (now (pairs .entry))) j, r) ⌝ }
+{
+    let p = pairs.as_slice()[j].0;
+    let _ = pairs.replace(j, (p, r));
+}
+
+/// Takes a free token of `r`, and makes one of `q` free.
+fn exchange(free: &mut PlaceBag, q: u8, r: u8)
+    requires low { ⌜ (q < 16) × (r < 16) ⌝ }
+    requires some { ⌜ 0 < bag-of (now free) r ⌝ }
+    ensures { λ _. ⌜ bag-of (now (free .exit)) ≡ single q ⊕ (bag-of (now (free .entry)) ⊖ single r) ⌝ }
+{
+    let _ = free.take(r);
+    let _ = free.lay(q);
+}
+
 /// Moves the pair at the number `j` from `q` to `r`, which has a free token.
 fn shift(pairs: &mut Sequence<(u8, u8)>, free: &mut PlaceBag, j: usize, q: u8, r: u8)
     requires there { ⌜ j < length (items (now pairs)) ⌝ }
@@ -42,10 +63,8 @@ fn shift(pairs: &mut Sequence<(u8, u8)>, free: &mut PlaceBag, j: usize, q: u8, r
     ensures moved { λ _. ⌜ items (now (pairs .exit)) ≡ set (items (now (pairs .entry))) j (left-end (items (now (pairs .entry))) j, r) ⌝ }
     ensures freed { λ _. ⌜ bag-of (now (free .exit)) ≡ single q ⊕ (bag-of (now (free .entry)) ⊖ single r) ⌝ }
 {
-    let p = pairs.as_slice()[j].0;
-    let _ = pairs.replace(j, (p, r));
-    let _ = free.take(r);
-    let _ = free.lay(q);
+    move_end(pairs, j, r);
+    exchange(free, q, r);
 }
 
 /// Makes a token of the right place `q` free, if that can be done by moving pairs that end at places not seen.
@@ -59,13 +78,28 @@ fn open_place(
     requires low { ⌜ q < 16 ⌝ }
     requires fresh { ⌜ set-of (now seen) q ≡ false ⌝ }
     requires held { ⌜ Held (relation-of (now relation)) (items (now pairs)) ⌝ }
-    ensures opened { λ o. ⌜ (o ≡ true → Opened (relation-of (now (relation .entry))) (items (now (pairs .entry))) (bag-of (now (free .entry))) (set-of (now (seen .entry))) q (items (now (pairs .exit))) (bag-of (now (free .exit)))) ⌝ }
-    ensures shut { λ o. ⌜ (o ≡ false → Shut (relation-of (now (relation .entry))) (items (now (pairs .entry))) (bag-of (now (free .entry))) (set-of (now (seen .entry))) q (items (now (pairs .exit))) (bag-of (now (free .exit))) (set-of (now (seen .exit)))) ⌝ }
+    ensures { λ o. ⌜ When o (Opened (relation-of (now (relation .entry))) (items (now (pairs .entry))) (bag-of (now (free .entry))) (set-of (now (seen .entry))) q (items (now (pairs .exit))) (bag-of (now (free .exit)))) (Shut (relation-of (now (relation .entry))) (items (now (pairs .entry))) (bag-of (now (free .entry))) (set-of (now (seen .entry))) q (items (now (pairs .exit))) (bag-of (now (free .exit))) (set-of (now (seen .exit)))) ⌝ }
 {
     seen.insert(q);
     if free.count(q) > 0 {
         return true;
     }
+    reopen(relation, pairs, free, seen, q)
+}
+
+/// Makes a token of the right place `q`, which has none free, free by moving a pair of `q` to a place not seen.
+fn reopen(
+    relation: &Relation,
+    pairs: &mut Sequence<(u8, u8)>,
+    free: &mut PlaceBag,
+    seen: &mut PlaceSet,
+    q: u8,
+) -> bool
+    requires low { ⌜ q < 16 ⌝ }
+    requires marked { ⌜ set-of (now seen) q ≡ true ⌝ }
+    requires held { ⌜ Held (relation-of (now relation)) (items (now pairs)) ⌝ }
+    ensures { λ o. ⌜ When o (Opened (relation-of (now (relation .entry))) (items (now (pairs .entry))) (bag-of (now (free .entry))) (set-of (now (seen .entry))) q (items (now (pairs .exit))) (bag-of (now (free .exit)))) (Trying (relation-of (now (relation .entry))) (items (now (pairs .entry))) (bag-of (now (free .entry))) (set-of (now (seen .entry))) q (items (now (pairs .exit))) (bag-of (now (free .exit))) (set-of (now (seen .exit))) 16) ⌝ }
+{
     for r in 0..16u8 {
         if !seen.contains(r) {
             if let Some(j) = holder(relation, pairs.as_slice(), q, r) {
@@ -100,6 +134,14 @@ fn place(
     Err(seen)
 }
 
+/// Adds a pair at the end.
+fn append(pairs: &mut Sequence<(u8, u8)>, pair: (u8, u8))
+    requires { ⌜ length (items (now pairs)) < 64 ⌝ }
+    ensures { λ _. ⌜ items (now (pairs .exit)) ≡ items (now (pairs .entry)) ++ pair ∷ [] ⌝ }
+{
+    let _ = pairs.push(pair);
+}
+
 /// Pairs one more token, of the left place `p`.
 fn place_next(
     relation: &Relation,
@@ -114,7 +156,7 @@ fn place_next(
 {
     match place(relation, pairs, free, p) {
         Ok(q) => {
-            let _ = pairs.push((p, q));
+            append(pairs, (p, q));
             let _ = free.take(q);
             Ok(())
         }

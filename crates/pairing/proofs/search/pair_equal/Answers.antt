@@ -7,6 +7,7 @@ use Rattle.bags.specs.Items.{items}
 use Rattle.places.specs.Meanings.{bag-of, relation-of, set-of}
 use Rattle.places.specs.Laws.{bag-few, bag-placed}
 use Rattle.pairing.specs.Search.{left-end, Going, Reached}
+use Rattle.pairing.proofs.Steps.{placed-on}
 use Rattle.pairing.proofs.Ends.{going-none, going-on, short-of, outnumbered, reached-marked, all-paired}
 use Rattle.pairing.proofs.search.pair_equal.Needs as need
 
@@ -24,11 +25,11 @@ place-next-requires c κs = record {
 pub loop-p-less : need.loop-p-less
 loop-p-less c =
     let room : length (items (c .loop-p .pairs)) < 64 = short-of (bag-few (c .args .left .now)) (c .loop-p .inv) (c .loop-p-test .taken) (omega (arith, c .count .ensures, c .if-count-eq0 .left)) in
-    omega (arith, c .in-Ok .ensures tt .one-more)
+    omega (arith, placed-on (c .loop-p-test .taken) (c .in-Ok .ensures tt) .one-more)
 
 pub loop-p-again : need.loop-p-again
 loop-p-again c = subst (λ m. Going (relation-of (c .args .relation .now)) (bag-of (c .args .left .now)) (bag-of (c .args .right .now)) (items (c .place-next .last .pairs)) m (bag-of (c .place-next .last .free)) (c .loop-p .p)) (sym (c .take .ensures .after))
-    (going-on (omega (arith, c .count .ensures, c .if-count-eq0 .left)) (c .loop-p .inv) (c .in-Ok .ensures tt))
+    (going-on (omega (arith, c .count .ensures, c .if-count-eq0 .left)) (c .loop-p .inv) (placed-on (c .loop-p-test .taken) (c .in-Ok .ensures tt)))
 
 pub reached-requires : need.reached-requires
 reached-requires c κs = record {

@@ -18,11 +18,11 @@ open-place-requires c κs = record {
 }
 
 pub returns-then-open-place : need.returns-then-open-place
-returns-then-open-place c = room-there (c .loop-q-test .taken) (sym (c .if-contains .ensures tt)) (c .loop-q .inv) (c .open-place .ensures .opened (c .if-open-place .taken))
+returns-then-open-place c = room-there (c .loop-q-test .taken) (sym (c .if-contains .ensures tt)) (c .loop-q .inv) (c .if-open-place .ensures tt)
 
 pub loop-q-again : need.loop-q-again
 loop-q-again c = elim (c .if-contains .came) [
-  | then-contains·then-not-contains·else-open-place w ↦ simp (w .pairs-is, w .free-is, w .seen-is) (blocked-more (c .loop-q .inv) (w .open-place .ensures .shut (w .if-open-place .left)))
+  | then-contains·then-not-contains·else-open-place w ↦ simp (w .pairs-is, w .free-is, w .seen-is) (blocked-more (c .loop-q .inv) (w .if-open-place .ensures tt))
   | else-contains w ↦ simp (w .pairs-is, w .free-is, w .seen-is) (elim (w .else-contains .came) [
     | else-contains·by·then-contains·else-not-contains v ↦ blocked-skip (c .loop-q .inv) (λ _. sym (v .if-not-contains .ensures tt))
     | else-contains·by·else-contains v ↦ blocked-skip (c .loop-q .inv) (λ e. absurd (both-ways (relation-of (c .args .relation .now) (c .args .p) (c .loop-q .q)) (sym (v .if-contains .ensures tt)) e))
