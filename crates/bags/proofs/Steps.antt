@@ -21,10 +21,10 @@ set-take (suc n) (suc i) x (y ∷ xs) l = ap (λ ys. y ∷ ys) (set-take n i x x
 -- nothing has moved yet
 pub gap-none : {X : Type 0} (xs : List X) (i : ℕ) → i < length xs → take i xs ≡ removed (take (i + 1) xs) i
 gap-none xs i l = sym (
-  ap (λ ys. ys ++ drop (suc i) (take (i + 1) xs)) (take-take i (i + 1) xs (omega arith)) ∙
-  ap (λ ys. take i xs ++ ys) (drop-all (suc i) (take (i + 1) xs) (omega (arith, length-take (i + 1) xs))) ∙
-  append-nil (take i xs)
-)
+    ap (λ ys. ys ++ drop (suc i) (take (i + 1) xs)) (take-take i (i + 1) xs (omega arith)) ∙
+    ap (λ ys. take i xs ++ ys) (drop-all (suc i) (take (i + 1) xs) (omega (arith, length-take (i + 1) xs))) ∙
+    append-nil (take i xs)
+    )
 
 removed-push : {X : Type 0} (ys : List X) (i : ℕ) (z : X) → i < length ys → removed (ys ++ z ∷ []) i ≡ removed ys i ++ z ∷ []
 removed-push ys i z l =

@@ -6,9 +6,6 @@ use native.Mathlib.Omega.{arith}
 use lib.ListN.{length, set}
 use Rattle.std.specs.declared.result.Result.{Result}
 use Rattle.std.specs.declared.result.Result.the-variants.{Ok, Err}
-use Rattle.std.proofs.shelf.Lists.{length-take}
-use Rattle.bags.specs.Items.{items}
-use Rattle.bags.specs.declared.sequence.Sequence.{Sequence}
 
 -- x was added at the end; or 64 elements were held already, nothing changed and x came back
 abbrev pub Pushed : {X : Type 0} → List X → X → Result (Unit {0}) X → List X → Type 0
@@ -28,7 +25,3 @@ pushed-fits xs x (Err back) ys h l = absurd (omega (arith, h .0))
 pub replaced-there : {X : Type 0} (xs : List X) (i : ℕ) (x : X) (r : Result (Unit {0}) X) (ys : List X) → Replaced xs i x r ys → i < length xs → ys ≡ set xs i x
 replaced-there xs i x (Ok done) ys h l = h .1
 replaced-there xs i x (Err back) ys h l = absurd (omega (arith, h .0))
-
--- a sequence has at most 64 elements
-pub items-few : {X : Type 0} (s : Sequence X) → length (items s) ≤ 64
-items-few s = omega (arith, length-take (s .len) (s .room .cells), s .within)

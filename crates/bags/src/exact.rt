@@ -6,5 +6,4 @@ ghost use Rattle.bags.specs.Exact.{Exact-counts, Exact-removes};
 pub fn equality_is_exact()
     ensures counts { λ _. ⌜ Exact-counts ⌝ }
     ensures removes { λ _. ⌜ Exact-removes ⌝ }
-{
-}
+{}

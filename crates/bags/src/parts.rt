@@ -12,11 +12,7 @@ ghost use Rattle.std.specs.Options.{Cases as BySome};
 pub fn at<T: Copy>(held: &[T], i: usize) -> Option<T>
     ensures { λ r. ⌜ r ≡ nth (now (held .entry)) i ⌝ }
 {
-    if i < held.len() {
-        Some(held[i])
-    } else {
-        None
-    }
+    if i < held.len() { Some(held[i]) } else { None }
 }
 
 /// How many elements equal `x`.

@@ -1,7 +1,6 @@
 ghost use lib.ListN.{length};
 ghost use mathlib.Core.Path.{_≡_};
 ghost use Prim.Native.Nat.{_≤_};
-
 use crate::room::Room;
 
 /// At most 64 elements in the order in which they were added. Its order counts, so it is no bag: a bag in the

@@ -5,10 +5,12 @@ ghost use mathlib.Core.Path.{_≡_};
 ghost use Prim.Native.Nat.{ℕ};
 ghost use Rattle.bags.specs.Exact.{same-pair};
 ghost use Rattle.demo.specs.Examples.{as-often, same-pairs, with-places};
+ghost use Rattle.demo.specs.Hand.{pairs-expected, RefusalExpected};
 ghost use Rattle.pairing.specs.Refusals.{refusal-number, shown-with};
 ghost use Rattle.places.specs.Meanings.{set-of};
 ghost use Rattle.places.specs.Sets.{nowhere};
 ghost use Rattle.std.specs.shelf.Lists.{countBy};
+use crate::examples::Expected;
 use crate::setup::set_with;
 use pairing::PairingRefusal;
 use places::PlaceSet;
@@ -48,7 +50,7 @@ fn as_often(found: &[(u8, u8)], expected: &[(u8, u8)]) -> bool
 }
 
 /// Whether two lists have the same pairs, in whatever order.
-pub fn same_pairs(found: &[(u8, u8)], expected: &[(u8, u8)]) -> bool
+fn same_pairs(found: &[(u8, u8)], expected: &[(u8, u8)]) -> bool
     ensures { λ r. ⌜ r ≡ same-pairs (now (found .entry)) (now (expected .entry)) ⌝ }
 {
     if found.len() != expected.len() {
@@ -70,9 +72,31 @@ fn same_places(a: &PlaceSet, b: &PlaceSet) -> bool
 }
 
 /// Whether a refusal has this number and shows this side and these places.
-pub fn same_refusal(refusal: PairingRefusal, number: u8, side: Side, places: &[u8]) -> bool
+fn same_refusal(refusal: PairingRefusal, number: u8, side: Side, places: &[u8]) -> bool
     ensures { λ r. ⌜ ((r ≡ true) ↔ ((refusal-number refusal ≡ number) × (shown-with refusal .0 ≡ side) × ((p : ℕ) → set-of (shown-with refusal .1) p ≡ with-places nowhere (now (places .entry)) p))) ⌝ }
 {
     let (shown_side, shown_places) = refusal.shown();
-    refusal.number() == number && shown_side == side && same_places(&shown_places, &set_with(places))
+    refusal.number() == number
+        && shown_side == side
+        && same_places(&shown_places, &set_with(places))
+}
+
+/// Whether these pairs were to be found.
+pub fn pairs_agree(found: &[(u8, u8)], expected: &Expected) -> bool
+    ensures { λ r. ⌜ r ≡ pairs-expected (now (expected .entry)) (now (found .entry)) ⌝ }
+{
+    match *expected {
+        Expected::Pairs(pairs) => same_pairs(found, pairs),
+        Expected::Refusal(_, _, _) => false,
+    }
+}
+
+/// Whether this refusal was to be given.
+pub fn refusal_agrees(refusal: PairingRefusal, expected: &Expected) -> bool
+    ensures { λ r. ⌜ ((r ≡ true) ↔ RefusalExpected (now (expected .entry)) refusal) ⌝ }
+{
+    match *expected {
+        Expected::Pairs(_) => false,
+        Expected::Refusal(number, side, places) => same_refusal(refusal, number, side, places),
+    }
 }

@@ -6,57 +6,40 @@ mod examples;
 mod print;
 mod setup;
 
-use compare::same_pairs;
-use compare::same_refusal;
+use compare::pairs_agree;
+use compare::refusal_agrees;
 use examples::Example;
-use examples::Expected;
 use pairing::find_pairing;
-use print::print_bag;
 use print::print_pairs;
+use print::print_question;
 use print::print_refusal;
+use print::print_verdict;
 use setup::bag_with;
 use setup::relation_with;
-use setup::set_with;
 use std::error::AnyError;
+use std::io;
 
 /// Runs one example, prints it, and says whether it came out as worked by hand.
-fn run(rt: &LibcRuntime, example: &Example) -> Result<bool, AnyError> {
-    let relation = relation_with(example.relation);
-    println!(rt, "{}", example.title)?;
+fn run(rt: &LibcRuntime, example: &Example) -> io::Result<bool> {
     let Ok(left) = bag_with(example.left) else {
         return Ok(false);
     };
     let Ok(right) = bag_with(example.right) else {
         return Ok(false);
     };
-    print_bag(rt, "left", example.left_names, &left)?;
-    print_bag(rt, "right", example.right_names, &right)?;
-    print_pairs(rt, "relation", example, example.relation)?;
-    let agrees = match find_pairing(&relation, &left, &right) {
+    print_question(rt, example, &left, &right)?;
+    let agrees = match find_pairing(&relation_with(example.relation), &left, &right) {
         Ok(pairs) => {
             print_pairs(rt, "pairing", example, pairs.as_slice())?;
-            match example.expected {
-                Expected::Pairs(expected) => same_pairs(pairs.as_slice(), expected),
-                Expected::Refusal(_, _, _) => false,
-            }
+            pairs_agree(pairs.as_slice(), &example.expected)
         }
         Err(refusal) => {
             let (side, places) = refusal.shown();
             print_refusal(rt, "refused", example, refusal.number(), side, &places)?;
-            match example.expected {
-                Expected::Pairs(_) => false,
-                Expected::Refusal(number, side, places) => same_refusal(refusal, number, side, places),
-            }
+            refusal_agrees(refusal, &example.expected)
         }
     };
-    match example.expected {
-        Expected::Pairs(expected) => print_pairs(rt, "by hand", example, expected)?,
-        Expected::Refusal(number, side, places) => {
-            print_refusal(rt, "by hand", example, number, side, &set_with(places))?;
-        }
-    }
-    println!(rt, "  {}", if agrees { "as by hand" } else { "NOT AS BY HAND" })?;
-    println!(rt, "")?;
+    print_verdict(rt, example, agrees)?;
     Ok(agrees)
 }
 

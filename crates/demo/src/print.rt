@@ -1,10 +1,12 @@
 //! The lines of an example.
 use crate::compare::times;
 use crate::examples::Example;
+use crate::examples::Expected;
+use crate::setup::set_with;
 use places::PlaceBag;
 use places::PlaceSet;
 use places::Side;
-use std::error::AnyError;
+use std::io;
 
 /// The name of a place.
 fn name<'a>(names: &[&'a str], place: u8) -> &'a str {
@@ -15,15 +17,15 @@ fn name<'a>(names: &[&'a str], place: u8) -> &'a str {
 }
 
 /// A bag: each place as often as the bag holds it.
-pub fn print_bag(rt: &LibcRuntime, what: &str, names: &[&str], bag: &PlaceBag) -> Result<(), AnyError> {
+pub fn print_bag(rt: &LibcRuntime, what: &str, names: &[&str], bag: &PlaceBag) -> io::Result<()> {
     print!(rt, "  {what}:")?;
     for place in 0..16u8 {
         for _ in 0..bag.count(place) {
-            print!(rt, " {}", name(names, place))?;
+            rt.print(" ")?;
+            rt.print(name(names, place))?;
         }
     }
-    println!(rt, "")?;
-    Ok(())
+    rt.println("")
 }
 
 /// The pairs of a list that start at `left`, in ascending order.
@@ -32,7 +34,7 @@ fn print_pairs_from(
     example: &Example,
     pairs: &[(u8, u8)],
     left: u8,
-) -> Result<(), AnyError> {
+) -> io::Result<()> {
     for right in 0..16u8 {
         for _ in 0..times(pairs, (left, right)) {
             let start = name(example.left_names, left);
@@ -49,13 +51,12 @@ pub fn print_pairs(
     what: &str,
     example: &Example,
     pairs: &[(u8, u8)],
-) -> Result<(), AnyError> {
+) -> io::Result<()> {
     print!(rt, "  {what}:")?;
     for left in 0..16u8 {
         print_pairs_from(rt, example, pairs, left)?;
     }
-    println!(rt, "")?;
-    Ok(())
+    rt.println("")
 }
 
 /// A refusal: its number, the side and the set that it shows.
@@ -66,7 +67,7 @@ pub fn print_refusal(
     number: u8,
     side: Side,
     places: &PlaceSet,
-) -> Result<(), AnyError> {
+) -> io::Result<()> {
     let (word, names) = match side {
         Side::Left => ("left", example.left_names),
         Side::Right => ("right", example.right_names),
@@ -74,9 +75,37 @@ pub fn print_refusal(
     print!(rt, "  {what}: {number} {word} {{")?;
     for place in 0..16u8 {
         if places.contains(place) {
-            print!(rt, " {}", name(names, place))?;
+            rt.print(" ")?;
+            rt.print(name(names, place))?;
         }
     }
-    println!(rt, " }}")?;
-    Ok(())
+    rt.println(" }")
+}
+
+/// Two bags and a relation.
+pub fn print_question(
+    rt: &LibcRuntime,
+    example: &Example,
+    left: &PlaceBag,
+    right: &PlaceBag,
+) -> io::Result<()> {
+    rt.println(example.title)?;
+    print_bag(rt, "left", example.left_names, left)?;
+    print_bag(rt, "right", example.right_names, right)?;
+    print_pairs(rt, "relation", example, example.relation)
+}
+
+/// What was worked out by hand, and whether it came.
+pub fn print_verdict(rt: &LibcRuntime, example: &Example, agrees: bool) -> io::Result<()> {
+    match example.expected {
+        Expected::Pairs(pairs) => print_pairs(rt, "by hand", example, pairs)?,
+        Expected::Refusal(number, side, places) => {
+            print_refusal(rt, "by hand", example, number, side, &set_with(places))?;
+        }
+    }
+    if agrees {
+        rt.println("  as by hand\n")
+    } else {
+        rt.println("  NOT AS BY HAND\n")
+    }
 }

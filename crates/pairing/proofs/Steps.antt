@@ -44,10 +44,13 @@ pub fewer-unseen : (s : Subset) (q : ℕ) → q < 16 → s q ≡ false → unsee
 fewer-unseen s q l e = sym (size-plus (λ p. cond (with-place s q p) 0 1) q l) ∙ ap size (fun-ext (λ p. here p (cases-eq q p)))
   where
     here : (p : ℕ) → (q ≡ p) ⊎ (q ≡ p → ⊥) → single q p + cond (with-place s q p) 0 1 ≡ cond (s p) 0 1
-    here p (inl h) = omega (arith,
-      ap (λ i. single q i) (sym h), single-same q,
+    here p (inl h) = omega (
+      arith,
+      ap (λ i. single q i) (sym h),
+      single-same q,
       ap (λ b. cond b 0 (suc 0)) (ap (with-place s q) (sym h) ∙ with-here s q l),
-      ap (λ b. cond b 0 (suc 0)) (ap s (sym h) ∙ e))
+      ap (λ b. cond b 0 (suc 0)) (ap s (sym h) ∙ e),
+    )
     here p (inr n) = omega (arith, single-other q p n, ap (λ b. cond b 0 (suc 0)) (with-other s q p n))
 
 -- a token of r became free, so a pair that ends at q moves there

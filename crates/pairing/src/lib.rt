@@ -76,11 +76,9 @@ pub fn has_pairing(relation: &Relation, left: &PlaceBag, right: &PlaceBag) -> bo
 /// The additive closure of a relation relates two bags exactly when they have a pairing: a theorem.
 pub fn closure_is_pairing()
     ensures { λ _. ⌜ PairedExactly ⌝ }
-{
-}
+{}
 
 /// Where a set of places outnumbers the places related to it, two bags have no pairing: a theorem.
 pub fn outnumbered_is_apart()
     ensures { λ _. ⌜ OutnumberedApart ⌝ }
-{
-}
+{}

@@ -17,12 +17,12 @@ ghost use Rattle.std.specs.Options.{Cases as BySome};
 ghost use Rattle.std.specs.Orderings.{When};
 ghost use Rattle.std.specs.Results.{Cases};
 ghost use Rattle.std.specs.declared.result.Result.the-variants.{Err};
+use crate::PairingRefusal;
 use bags::Sequence;
 use places::PlaceBag;
 use places::PlaceSet;
 use places::Relation;
 use places::Side;
-use crate::PairingRefusal;
 
 /// The first pair that ends at `q` and could end at `r`.
 fn holder(relation: &Relation, pairs: &[(u8, u8)], q: u8, r: u8) -> Option<usize>

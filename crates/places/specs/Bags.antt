@@ -6,7 +6,6 @@ use lib.Dec.{eqb}
 infixl 60 _⊕_
 infixl 60 _⊖_
 infix 40 _⊆_
-
 -- a bag (a multiset) of places: how often it holds each place
 abbrev pub Bag : Type 0
 Bag = ℕ → ℕ

@@ -12,14 +12,14 @@ pub use place_set::PlaceSet;
 pub use relation::Relation;
 
 /// Which of the two nets.
-#[derive(Clone, Copy, PartialEq, Eq, Debug)]
+#[derive(Clone, Copy, PartialEq, Eq)]
 pub enum Side {
     Left,
     Right,
 }
 
 /// Why a token is not laid.
-#[derive(Clone, Copy, PartialEq, Eq, Debug)]
+#[derive(Clone, Copy)]
 pub enum LayRefusal {
     /// 23: there is no such place.
     NoSuchPlace,

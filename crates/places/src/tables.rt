@@ -70,11 +70,7 @@ pub fn no_flags() -> [bool; 16]
 pub fn flag(flags: &[bool; 16], p: u8) -> bool
     ensures { λ r. ⌜ r ≡ flagged (now (flags .entry)) p ⌝ }
 {
-    if p < 16 {
-        flags[p as usize]
-    } else {
-        false
-    }
+    if p < 16 { flags[p as usize] } else { false }
 }
 
 /// Marks a place, if there is such a place.

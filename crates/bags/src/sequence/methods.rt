@@ -54,23 +54,20 @@ impl<T: Copy> Sequence<T> {
     pub fn push(&mut self, x: T) -> Result<(), T>
         ensures { λ r. ⌜ Pushed (items (now (self .entry))) x r (items (now (self .exit))) ⌝ }
     {
-        if self.len == 64 {
-            return Err(x);
+        match self.room.push(self.len, x) {
+            Ok(()) => {
+                self.len += 1;
+                Ok(())
+            }
+            Err(x) => Err(x),
         }
-        self.room.write_behind(self.len, x);
-        self.len += 1;
-        Ok(())
     }
 
     /// Puts `x` in the place of the element at the number `i`; where there is none, nothing changes and `x` comes back.
     pub fn replace(&mut self, i: usize, x: T) -> Result<(), T>
         ensures { λ r. ⌜ Replaced (items (now (self .entry))) i x r (items (now (self .exit))) ⌝ }
     {
-        if i >= self.len {
-            return Err(x);
-        }
-        self.room.write_over(self.len, i, x);
-        Ok(())
+        self.room.replace(self.len, i, x)
     }
 }
 

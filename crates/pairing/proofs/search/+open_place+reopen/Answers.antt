@@ -43,8 +43,8 @@ pub reopen-loop-r-again : need.reopen-loop-r-again
 reopen-loop-r-again t c = elim (c .if-not-contains .came) [
   | reopen-then-not-contains·in-Some·else-open-place w ↦ simp (w .pairs-is, w .free-is, w .seen-is) (trying-more (c .loop-r .inv) (w .if-open-place .ensures tt))
   | reopen-then-not-contains·in-rest w ↦ (
-    let none = subst (λ ps. NoHolder (relation-of (c .args .relation .now)) ps (c .args .q) (c .loop-r .r)) (w .as-slice .ensures) (w .in-rest .ensures tt) in
-    simp (w .pairs-is, w .free-is, w .seen-is) (trying-skip (c .loop-r .inv) (λ j l at rel. absurd (both-ways (relation-of (c .args .relation .now) (left-end (items (c .loop-r .pairs)) j) (c .loop-r .r)) (none j l at) rel)))
-  )
+      let none = subst (λ ps. NoHolder (relation-of (c .args .relation .now)) ps (c .args .q) (c .loop-r .r)) (w .as-slice .ensures) (w .in-rest .ensures tt) in
+      simp (w .pairs-is, w .free-is, w .seen-is) (trying-skip (c .loop-r .inv) (λ j l at rel. absurd (both-ways (relation-of (c .args .relation .now) (left-end (items (c .loop-r .pairs)) j) (c .loop-r .r)) (none j l at) rel)))
+      )
   | reopen-else-not-contains w ↦ simp (w .pairs-is, w .free-is, w .seen-is) (trying-skip (c .loop-r .inv) (λ j l at rel. sym (w .if-not-contains .ensures tt)))
 ]

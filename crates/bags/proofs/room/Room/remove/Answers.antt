@@ -1,7 +1,7 @@
 use native.Mathlib.Nat.{sub-zero}
 use native.Mathlib.Omega.{arith}
 use mathlib.Core.Bool.{true, false}
-use mathlib.Core.Path.{refl, sym, subst}
+use mathlib.Core.Path.{sym, subst}
 use Prim.Native.Nat.{_-_}
 use lib.ListN.{take}
 use Rattle.std.specs.Holes.{removed}
@@ -20,7 +20,7 @@ returns-in-Some g c =
 
 pub returns-in-None : need.returns-in-None
 returns-in-None g c = record {
-  long = refl;
+  long = c .pre .1;
   some = omega arith;
   after = subst (λ n. Removes (λ y b. g .T·PartialEq .equals y (c .args .x) b) (take n (c .args .self .now .cells)) false (take n (c .args .self .now .cells))) (sub-zero (c .args .len)) (c .in-None .ensures tt);
 }
