@@ -1,0 +1,4 @@
+pub mod Names
+pub mod Numbers
+pub mod Meanings
+pub mod Written

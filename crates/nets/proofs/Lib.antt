@@ -1,0 +1,2 @@
+mod Fires
+mod Copies

@@ -1,0 +1,5 @@
+pub mod Meaning
+pub mod Firing
+pub mod Rows
+pub mod Copies
+pub mod Tables
