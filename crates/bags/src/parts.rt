@@ -9,14 +9,14 @@ ghost use Rattle.std.specs.Holes.{removed};
 ghost use Rattle.std.specs.Options.{Cases as BySome};
 
 /// The element at the number `i`, or none.
-pub fn at<T: Copy>(held: &[T], i: usize) -> Option<T>
+pub(crate) fn at<T: Copy>(held: &[T], i: usize) -> Option<T>
     ensures { λ r. ⌜ r ≡ nth (now (held .entry)) i ⌝ }
 {
     if i < held.len() { Some(held[i]) } else { None }
 }
 
 /// How many elements equal `x`.
-pub fn occurrences<T: Copy + PartialEq<T>>(held: &[T], x: T) -> usize
+pub(crate) fn occurrences<T: Copy + PartialEq<T>>(held: &[T], x: T) -> usize
     ensures { λ r. ⌜ Counts (λ y b. T·PartialEq .equals y x b) (now (held .entry)) r ⌝ }
 {
     let mut n: usize = 0;
@@ -29,7 +29,7 @@ pub fn occurrences<T: Copy + PartialEq<T>>(held: &[T], x: T) -> usize
 }
 
 /// The number of the earliest element that equals `x`, or none.
-pub fn earliest<T: Copy + PartialEq<T>>(held: &[T], x: T) -> Option<usize>
+pub(crate) fn earliest<T: Copy + PartialEq<T>>(held: &[T], x: T) -> Option<usize>
     ensures { λ r. ⌜ BySome r (Removes (λ y b. T·PartialEq .equals y x b) (now (held .entry)) false (now (held .entry))) (λ i. (i < length (now (held .entry))) × Removes (λ y b. T·PartialEq .equals y x b) (now (held .entry)) true (removed (now (held .entry)) i)) ⌝ }
 {
     for (i, y) in held.iter().enumerate() {

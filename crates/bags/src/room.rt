@@ -18,7 +18,7 @@ pub struct Room<T> {
 
 impl<T: Copy> Room<T> {
     /// Writes `x` behind the `len` elements that are held, if there is room.
-    pub fn push(&mut self, len: usize, x: T) -> Result<(), T>
+    pub(crate) fn push(&mut self, len: usize, x: T) -> Result<(), T>
         requires { ⌜ len ≤ 64 ⌝ ∗ ⌜ length (now self .cells) ≡ 64 ⌝ }
         ensures long { λ _. ⌜ length (now (self .exit) .cells) ≡ 64 ⌝ }
         ensures within { λ r. ⌜ cond (isOk r) (len + 1) len ≤ 64 ⌝ }
@@ -32,7 +32,7 @@ impl<T: Copy> Room<T> {
     }
 
     /// Writes `x` over the element at the number `i` of the `len` that are held, if there is one.
-    pub fn replace(&mut self, len: usize, i: usize, x: T) -> Result<(), T>
+    pub(crate) fn replace(&mut self, len: usize, i: usize, x: T) -> Result<(), T>
         requires { ⌜ len ≤ 64 ⌝ ∗ ⌜ length (now self .cells) ≡ 64 ⌝ }
         ensures long { λ _. ⌜ length (now (self .exit) .cells) ≡ 64 ⌝ }
         ensures after { λ r. ⌜ Replaced (take len (now (self .entry) .cells)) i x r (take len (now (self .exit) .cells)) ⌝ }
@@ -58,7 +58,7 @@ impl<T: Copy> Room<T> {
 
 impl<T: Copy + PartialEq<T>> Room<T> {
     /// How many of the `len` elements that are held equal `x`.
-    pub fn count(&self, len: usize, x: T) -> usize
+    pub(crate) fn count(&self, len: usize, x: T) -> usize
         requires { ⌜ len ≤ 64 ⌝ ∗ ⌜ length (now self .cells) ≡ 64 ⌝ }
         ensures { λ r. ⌜ Counts (λ y b. T·PartialEq .equals y x b) (take len (now (self .entry) .cells)) r ⌝ }
     {
@@ -67,7 +67,7 @@ impl<T: Copy + PartialEq<T>> Room<T> {
     }
 
     /// Takes out the earliest of the `len` elements that equals `x`, and says whether there was one.
-    pub fn remove(&mut self, len: usize, x: T) -> bool
+    pub(crate) fn remove(&mut self, len: usize, x: T) -> bool
         requires { ⌜ len ≤ 64 ⌝ ∗ ⌜ length (now self .cells) ≡ 64 ⌝ }
         ensures long { λ _. ⌜ length (now (self .exit) .cells) ≡ 64 ⌝ }
         ensures some { λ r. ⌜ cond r 1 0 ≤ len ⌝ }

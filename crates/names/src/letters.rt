@@ -29,7 +29,7 @@ fn all_continue(bytes: &[u8]) -> bool
 }
 
 /// Whether the bytes are a name.
-pub fn is_name(bytes: &[u8]) -> bool
+pub(crate) fn is_name(bytes: &[u8]) -> bool
     ensures { λ r. ⌜ r ≡ valid-name (now (bytes .entry)) ⌝ }
 {
     match bytes {

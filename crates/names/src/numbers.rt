@@ -31,7 +31,7 @@ fn pack_bytes(bytes: &[u8]) -> u64
 }
 
 /// The number that a name is packed into.
-pub fn pack(bytes: &[u8]) -> u64
+pub(crate) fn pack(bytes: &[u8]) -> u64
     requires { ⌜ valid-name (now bytes) ≡ true ⌝ }
     ensures value { λ r. ⌜ r ≡ packed (now (bytes .entry)) ⌝ }
     ensures named { λ r. ⌜ is-packed r ≡ true ⌝ }
@@ -60,7 +60,7 @@ fn bytes_of(number: u64) -> [u8; 8]
 }
 
 /// How many bytes the name has that is packed into a number.
-pub fn text_len(number: u64) -> usize
+pub(crate) fn text_len(number: u64) -> usize
     ensures { λ r. ⌜ r ≡ length (text-in number) ⌝ }
 {
     zero_at(&bytes_of(number))
@@ -76,7 +76,7 @@ fn holds_name(number: u64) -> bool
 }
 
 /// Whether a name is packed into the number.
-pub fn is_packed_name(number: u64) -> bool
+pub(crate) fn is_packed_name(number: u64) -> bool
     ensures value { λ r. ⌜ r ≡ is-packed number ⌝ }
     ensures yes { λ r. ⌜ (r ≡ true → IsName number) ⌝ }
     ensures no { λ r. ⌜ (r ≡ false → IsName number → ⊥) ⌝ }
@@ -85,7 +85,7 @@ pub fn is_packed_name(number: u64) -> bool
 }
 
 /// Writes the bytes of the name that is packed into a number, and zero bytes behind them.
-pub fn write_text(number: u64, out: &mut [u8; 8]) -> usize
+pub(crate) fn write_text(number: u64, out: &mut [u8; 8]) -> usize
     requires { ⌜ is-packed number ≡ true ⌝ }
     ensures { λ r. ⌜ Written number r (now (out .exit)) ⌝ }
 {

@@ -28,7 +28,7 @@ fn row_of<N: Net>(net: &N, t: u8) -> Row
 }
 
 /// The rows of all transitions.
-pub fn rows_of<N: Net>(net: &N, places: u8, transitions: u8) -> [Row; 32]
+pub(crate) fn rows_of<N: Net>(net: &N, places: u8, transitions: u8) -> [Row; 32]
     requires places { ⌜ places ≡ N·Net .meaning (now net) .places ⌝ }
     requires transitions { ⌜ transitions ≡ N·Net .meaning (now net) .transitions ⌝ }
     ensures same { λ r. ⌜ tabled places transitions r ≡ N·Net .meaning (now (net .entry)) ⌝ }

@@ -222,7 +222,7 @@ fn marked(bag: &PlaceBag) -> PlaceSet
 }
 
 /// Pairs two bags of one size, or else shows a set of left places.
-pub fn decide_equal(
+pub(crate) fn decide_equal(
     relation: &Relation,
     left: &PlaceBag,
     right: &PlaceBag,
@@ -237,7 +237,7 @@ pub fn decide_equal(
 }
 
 /// The refusal where the left bag is the larger.
-pub fn larger_left(relation: &Relation, left: &PlaceBag, right: &PlaceBag) -> PairingRefusal
+pub(crate) fn larger_left(relation: &Relation, left: &PlaceBag, right: &PlaceBag) -> PairingRefusal
     requires { ⌜ size (bag-of (now right)) < size (bag-of (now left)) ⌝ }
     ensures { λ r. ⌜ Decided (relation-of (now (relation .entry))) (bag-of (now (left .entry))) (bag-of (now (right .entry))) (Err r) ⌝ }
 {
@@ -245,7 +245,7 @@ pub fn larger_left(relation: &Relation, left: &PlaceBag, right: &PlaceBag) -> Pa
 }
 
 /// The refusal where the right bag is the larger.
-pub fn larger_right(relation: &Relation, left: &PlaceBag, right: &PlaceBag) -> PairingRefusal
+pub(crate) fn larger_right(relation: &Relation, left: &PlaceBag, right: &PlaceBag) -> PairingRefusal
     requires { ⌜ size (bag-of (now left)) < size (bag-of (now right)) ⌝ }
     ensures { λ r. ⌜ Decided (relation-of (now (relation .entry))) (bag-of (now (left .entry))) (bag-of (now (right .entry))) (Err r) ⌝ }
 {

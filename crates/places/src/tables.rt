@@ -9,7 +9,7 @@ ghost use Rattle.places.specs.Sets.{nowhere, size, unrelated, with-pair, with-
 ghost use Rattle.places.specs.Tables.{counted, flagged, rowed, Square};
 
 /// A count of 0 for each place.
-pub fn no_counts() -> [u8; 16]
+pub(crate) fn no_counts() -> [u8; 16]
     ensures long { λ r. ⌜ length r ≡ 16 ⌝ }
     ensures none { λ r. ⌜ size (counted r) ≡ 0 ⌝ }
     ensures value { λ r. ⌜ counted r ≡ empty ⌝ }
@@ -18,14 +18,14 @@ pub fn no_counts() -> [u8; 16]
 }
 
 /// The count of a place, 0 above 15.
-pub fn entry(counts: &[u8; 16], p: u8) -> u8
+pub(crate) fn entry(counts: &[u8; 16], p: u8) -> u8
     ensures { λ r. ⌜ r ≡ counted (now (counts .entry)) p ⌝ }
 {
     if p < 16 { counts[p as usize] } else { 0 }
 }
 
 /// The tokens on all places.
-pub fn total(counts: &[u8; 16]) -> usize
+pub(crate) fn total(counts: &[u8; 16]) -> usize
     ensures { λ r. ⌜ r ≡ size (counted (now (counts .entry))) ⌝ }
 {
     let mut sum: usize = 0;
@@ -36,7 +36,7 @@ pub fn total(counts: &[u8; 16]) -> usize
 }
 
 /// One token more on a place.
-pub fn plus_one(counts: &mut [u8; 16], p: u8)
+pub(crate) fn plus_one(counts: &mut [u8; 16], p: u8)
     requires { ⌜ p < 16 ⌝ ∗ ⌜ size (counted (now counts)) < 64 ⌝ }
     ensures long { λ _. ⌜ length (now (counts .exit)) ≡ 16 ⌝ }
     ensures total { λ _. ⌜ size (counted (now (counts .exit))) ≡ size (counted (now (counts .entry))) + 1 ⌝ }
@@ -46,7 +46,7 @@ pub fn plus_one(counts: &mut [u8; 16], p: u8)
 }
 
 /// One token less on a place, if there is one; says whether there was.
-pub fn less_one(counts: &mut [u8; 16], p: u8) -> bool
+pub(crate) fn less_one(counts: &mut [u8; 16], p: u8) -> bool
     ensures long { λ _. ⌜ length (now (counts .exit)) ≡ 16 ⌝ }
     ensures found { λ r. ⌜ r ≡ ltb 0 (counted (now (counts .entry)) p) ⌝ }
     ensures total { λ r. ⌜ size (counted (now (counts .exit))) + cond r 1 0 ≡ size (counted (now (counts .entry))) ⌝ }
@@ -60,21 +60,21 @@ pub fn less_one(counts: &mut [u8; 16], p: u8) -> bool
 }
 
 /// No place.
-pub fn no_flags() -> [bool; 16]
+pub(crate) fn no_flags() -> [bool; 16]
     ensures { λ r. ⌜ flagged r ≡ nowhere ⌝ }
 {
     [false; 16]
 }
 
 /// Whether a place is marked; none above 15 is.
-pub fn flag(flags: &[bool; 16], p: u8) -> bool
+pub(crate) fn flag(flags: &[bool; 16], p: u8) -> bool
     ensures { λ r. ⌜ r ≡ flagged (now (flags .entry)) p ⌝ }
 {
     if p < 16 { flags[p as usize] } else { false }
 }
 
 /// Marks a place, if there is such a place.
-pub fn mark(flags: &mut [bool; 16], p: u8)
+pub(crate) fn mark(flags: &mut [bool; 16], p: u8)
     ensures { λ _. ⌜ flagged (now (flags .exit)) ≡ with-place (flagged (now (flags .entry))) p ⌝ }
 {
     if p < 16 {
@@ -83,7 +83,7 @@ pub fn mark(flags: &mut [bool; 16], p: u8)
 }
 
 /// No pair.
-pub fn no_rows() -> [[bool; 16]; 16]
+pub(crate) fn no_rows() -> [[bool; 16]; 16]
     ensures square { λ r. ⌜ Square r ⌝ }
     ensures value { λ r. ⌜ rowed r ≡ unrelated ⌝ }
 {
@@ -91,7 +91,7 @@ pub fn no_rows() -> [[bool; 16]; 16]
 }
 
 /// Whether a pair is marked; none with a place above 15 is.
-pub fn pair_flag(rows: &[[bool; 16]; 16], p: u8, q: u8) -> bool
+pub(crate) fn pair_flag(rows: &[[bool; 16]; 16], p: u8, q: u8) -> bool
     requires { ⌜ Square (now rows) ⌝ }
     ensures { λ r. ⌜ r ≡ rowed (now (rows .entry)) p q ⌝ }
 {
@@ -102,7 +102,7 @@ pub fn pair_flag(rows: &[[bool; 16]; 16], p: u8, q: u8) -> bool
 }
 
 /// Marks a pair or takes its mark away, if there are such places.
-pub fn mark_pair(rows: &mut [[bool; 16]; 16], p: u8, q: u8, v: bool)
+pub(crate) fn mark_pair(rows: &mut [[bool; 16]; 16], p: u8, q: u8, v: bool)
     requires { ⌜ Square (now rows) ⌝ }
     ensures square { λ _. ⌜ Square (now (rows .exit)) ⌝ }
     ensures after { λ _. ⌜ rowed (now (rows .exit)) ≡ with-pair (rowed (now (rows .entry))) p q v ⌝ }
