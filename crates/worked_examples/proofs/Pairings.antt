@@ -15,7 +15,7 @@ use Rattle.places.specs.declared.Side.the-variants.{Left, Right}
 use Rattle.pairing.specs.Closure.{Closure}
 use Rattle.pairing.specs.Outnumbering.{Outnumbers, OutnumberedApart}
 use Rattle.pairing.specs.Answers.{Shows, OutnumbersFrom}
-use Rattle.worked_examples.specs.Shows.{tokens, p, u, v, K}
+use Rattle.worked_examples.specs.Setting.{tokens, p, u, v, K}
 use Rattle.worked_examples.specs.Worked.{TwoAgainstOneEach}
 
 abbrev m : Bag

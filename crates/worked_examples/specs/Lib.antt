@@ -1,2 +1,2 @@
-pub mod Shows
+pub mod Setting
 pub mod Worked

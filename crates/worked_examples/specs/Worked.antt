@@ -8,7 +8,7 @@ use Rattle.places.specs.declared.Side.{Side}
 use Rattle.places.specs.declared.Side.the-variants.{Left}
 use Rattle.pairing.specs.Closure.{Closure}
 use Rattle.pairing.specs.Answers.{Shows}
-use Rattle.worked_examples.specs.Shows.{tokens, p, u, v, K}
+use Rattle.worked_examples.specs.Setting.{tokens, p, u, v, K}
 
 -- two tokens on p, one each on u and v, under K: there is no pairing; left and the set of p alone may be shown with the
 -- refusal, and nothing else may
