@@ -1,11 +1,11 @@
 -- A set never outnumbers the places that its tokens are paired with.
-use Rattle.std.proofs.Common.{◌≡◌, ℕ, zero, suc, ◌+◌, ◌<◌, ◌≤◌, Bool, true, false, cond, ◌&&◌, T, sym, refl, ap, ◌∙◌, inl, inr, arith}
-use Rattle.std.proofs.lemmas.Bool.{cases_eq, cases_lt, and_from, or_cases, or_left, or_right, false≢true}
-use Rattle.places.specs.Bags.{Bag, empty, single, ◌⊕◌}
-use Rattle.places.specs.Sets.{Subset, PlaceRelation, turned, tokens_on, Placed}
+use Rattle.std.proofs.Common.{◌≡◌, ℕ, suc, ◌<◌, ◌≤◌, Bool, true, false, cond, ◌&&◌, refl, ap, inl, inr, arith}
+use Rattle.std.proofs.lemmas.Bool.{cases_lt, and_from}
+use Rattle.places.specs.Bags.{Bag, single, ◌⊕◌}
+use Rattle.places.specs.Sets.{Subset, PlaceRelation, tokens_on, Placed}
 use Rattle.places.specs.Laws.{single_same, tokens_empty, tokens_sum, tokens_at, tokens_single_le}
 use Rattle.pairing.specs.Closure.{Closure, none, more}
-use Rattle.pairing.specs.Outnumbering.{some_below, beside, Outnumbers, OutnumberedApart}
+use Rattle.pairing.specs.Outnumbering.{beside, OutnumberedApart}
 use Rattle.pairing.specs.Laws.{turned_closure, some_from, of_T}
 
 -- a token on a, where A has a, is matched by one on b, where B has b

@@ -1,5 +1,5 @@
 -- The two ends of the search: all tokens are paired, or a set outnumbers the places related to it.
-use Rattle.std.proofs.Common.{◌≡◌, ℕ, suc, ◌+◌, ◌-◌, ◌<◌, ◌≤◌, Bool, true, false, cond, ◌&&◌, T, eqb, ◌⊎◌, List, [], ◌∷◌, length, get_or, count_by, sym, refl, ap, ◌∙◌, subst, inl, inr, arith}
+use Rattle.std.proofs.Common.{◌≡◌, ℕ, suc, ◌+◌, ◌<◌, ◌≤◌, Bool, true, false, cond, ◌&&◌, T, eqb, List, [], ◌∷◌, length, sym, refl, ap, ◌∙◌, subst, inl, inr, arith}
 use Rattle.std.proofs.lemmas.Bool.{cases_lt, and_parts}
 use Rattle.std.proofs.lemmas.List.Sums.{sum_by-cons, get_or-le-sum_by}
 use Rattle.places.specs.Bags.{Bag, single, ◌⊕◌, ◌⊖◌}
@@ -7,7 +7,7 @@ use Rattle.places.specs.Sets.{Subset, PlaceRelation, everywhere, tokens_on, size
 use Rattle.places.specs.Laws.{single_le, single_same, tokens_empty, tokens_sum, tokens_le, tokens_at}
 use Rattle.pairing.specs.Closure.{lefts, rights, AllIn, Pairing}
 use Rattle.pairing.specs.Outnumbering.{beside, Outnumbers}
-use Rattle.pairing.specs.Search.{starts, ends, left_end, right_end, Held, Stuck, Blocked, Going, Reached}
+use Rattle.pairing.specs.Search.{starts, ends, left_end, right_end, Blocked, Going, Reached}
 use Rattle.pairing.specs.Laws.{some_is}
 use Rattle.pairing.proofs.Counting.{carry}
 use Rattle.pairing.proofs.Steps.{PlacedOn}

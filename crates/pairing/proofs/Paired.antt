@@ -1,5 +1,5 @@
 -- A pairing of two bags exists exactly when the closure relates them.
-use Rattle.std.proofs.Common.{◌≡◌, ℕ, ◌+◌, List, [], ◌∷◌, refl, ap, subst₂}
+use Rattle.std.proofs.Common.{ℕ, ◌+◌, List, [], ◌∷◌, refl, ap, subst₂}
 use mathlib.Core.Path.{fun_ext}
 use Rattle.places.specs.Bags.{Bag, single}
 use Rattle.places.specs.Sets.{PlaceRelation}

@@ -1,5 +1,5 @@
 -- What the search for a pairing may answer. Assumes nothing.
-use Rattle.std.specs.Prelude.{◌≡◌, ℕ, ◌<◌, Bool, true, ◌↔◌, List, is_ok, Ok, Err, Result, ◌≢◌, nat_lt}
+use Rattle.std.specs.Prelude.{◌≡◌, ℕ, ◌<◌, true, ◌↔◌, List, is_ok, Ok, Err, Result, ◌≢◌, nat_lt}
 use Rattle.bags.specs.Items.{items}
 use Rattle.bags.specs.declared.sequence.Sequence.{Sequence}
 use Rattle.places.specs.Bags.{Bag}

@@ -1,5 +1,5 @@
 -- Sets of places whose tokens outnumber all tokens on the related places of the other side. Assumes nothing.
-use Rattle.std.specs.Prelude.{ℕ, zero, suc, ◌<◌, Bool, false, ◌&&◌, ◌||◌, List}
+use Rattle.std.specs.Prelude.{ℕ, zero, suc, ◌<◌, Bool, false, ◌&&◌, ◌||◌}
 use Rattle.places.specs.Bags.{Bag}
 use Rattle.places.specs.Sets.{Subset, PlaceRelation, turned, tokens_on, Placed}
 use Rattle.pairing.specs.Closure.{Closure}

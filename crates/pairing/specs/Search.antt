@@ -1,6 +1,6 @@
 -- What the search for a pairing knows while it works. Assumes nothing.
 -- xs are the pairs made so far, free the right tokens that are in no pair, seen the right places that were tried.
-use Rattle.std.specs.Prelude.{◌≡◌, ℕ, ◌+◌, ◌<◌, ◌≤◌, Bool, true, false, cond, ◌⊎◌, List, [], ◌∷◌, ◌++◌, length, get_or, count_by, ◌≢◌, nat_eq, slice_index_or}
+use Rattle.std.specs.Prelude.{◌≡◌, ℕ, ◌+◌, ◌<◌, ◌≤◌, true, false, cond, ◌⊎◌, List, [], ◌∷◌, ◌++◌, length, get_or, count_by, ◌≢◌, nat_eq, slice_index_or}
 use Rattle.places.specs.Bags.{Bag, single, ◌⊖◌}
 use Rattle.places.specs.Sets.{Subset, PlaceRelation, nowhere, size}
 use Rattle.pairing.specs.Outnumbering.{Outnumbers}

@@ -1,4 +1,7 @@
 //! The pairing of two bags of places under a relation, or the set of places that shows that there is none.
+
+#![tactic(auto)]
+
 ghost use Rattle.std.specs.Prelude.{◌≡◌, true, ◌↔◌};
 ghost use Rattle.pairing.specs.Answers.{Decided};
 ghost use Rattle.pairing.specs.Closure.{Closure, PairedExactly};

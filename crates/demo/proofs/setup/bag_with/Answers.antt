@@ -9,7 +9,7 @@ pub returns-in-Err : goal.returns-in-Err
 returns-in-Err c = sym (c.loop-token.invariant ∙ tokens_refused (bag_of c.loop-token.bag) _ c.args.tokens.now c.loop-token.token-index c.in-Err.refusal c.loop-token-test.true c.in-Err.ensures)
 
 pub loop-token-preserved : goal.loop-token-preserved
-loop-token-preserved c = c.loop-token.invariant ∙ tokens_more (bag_of c.loop-token.bag) _ c.args.tokens.now c.loop-token.token-index c.in-default.field-0 c.loop-token-test.true c.in-default.ensures
+loop-token-preserved c = c.loop-token.invariant ∙ tokens_more (bag_of c.loop-token.bag) _ c.args.tokens.now c.loop-token.token-index c.in_default.field-0 c.loop-token-test.true c.in_default.ensures
 
 pub returns : goal.returns
 returns c = sym (c.loop-token.invariant ∙ at_drop_all (with_tokens (bag_of c.loop-token.bag)) c.args.tokens.now c.loop-token.token-index c.loop-token-test.false)

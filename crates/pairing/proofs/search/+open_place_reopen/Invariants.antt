@@ -4,8 +4,8 @@ use Rattle.places.specs.Meanings.{bag_of, relation_of, set_of}
 use Rattle.pairing.specs.Search.{unseen, Trying}
 use Rattle.pairing.proofs.search.+open_place_reopen.Given as goal
 
-abbrev pub decreases-open-place : goal.decreases-open-place
-decreases-open-place l = 2 * unseen (set_of l.seen.now)
+abbrev pub decreases-open_place : goal.decreases-open_place
+decreases-open_place l = 2 * unseen (set_of l.seen.now)
 
 abbrev pub decreases-reopen : goal.decreases-reopen
 decreases-reopen l = 2 * unseen (set_of l.seen.now) + 1

@@ -1,4 +1,4 @@
-use Rattle.std.proofs.Common.{◌≡◌, ◌+◌, sym, ap, ◌∙◌, subst}
+use Rattle.std.proofs.Common.{◌+◌, sym, ap, ◌∙◌, subst}
 use Rattle.places.specs.Meanings.{set_of}
 use Rattle.places.specs.Sets.{with_place}
 use Rattle.pairing.specs.Search.{Reached}
