@@ -1,5 +1,5 @@
 -- How the examples are set up and compared. Assumes nothing.
-use Rattle.std.specs.Prelude.{ℕ, zero, suc, Bool, true, false, cond, ◌&&◌, List, [], ◌∷◌, length, Ok, Err, count_by, Result, ◌==◌, nat_lt}
+use Rattle.std.specs.Prelude.{ℕ, Bool, true, cond, ◌&&◌, List, [], ◌∷◌, length, Ok, Err, count_by, Result, ◌==◌, nat_lt}
 use Rattle.bags.specs.Exact.{same_pair}
 use Rattle.places.specs.Bags.{Bag, single, ◌⊕◌}
 use Rattle.places.specs.Sets.{Subset, PlaceRelation, size, with_pair, with_place}

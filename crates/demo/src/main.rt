@@ -1,6 +1,8 @@
 //! Runs the examples through the library's public calls, prints all that it did, and compares with values worked by
 //! hand.
 
+#![tactic(auto)]
+
 mod compare;
 mod examples;
 mod print;

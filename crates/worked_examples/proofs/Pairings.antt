@@ -1,14 +1,13 @@
 -- The worked examples of pairings.
-use Rattle.std.proofs.Common.{◌≡◌, ℕ, ◌<◌, ◌≤◌, Bool, true, false, eqb, [], ◌∷◌, sym, refl, ap, ◌∙◌, subst, inl, inr, arith, lit<}
+use Rattle.std.proofs.Common.{◌≡◌, ℕ, ◌<◌, true, eqb, [], ◌∷◌, sym, refl, ap, ◌∙◌, subst, inl, inr, arith, lit<}
 use Rattle.std.proofs.lemmas.Bool.{cases_eq, cases_Bool, eq-eqb, ne_eqb, eqb-true}
-use Rattle.places.specs.Bags.{Bag, single}
+use Rattle.places.specs.Bags.{Bag}
 use Rattle.places.specs.Sets.{Subset, tokens_below, size, Placed}
 use Rattle.places.specs.Laws.{single_other}
 use Rattle.places.specs.declared.Side.{Side}
 use Rattle.places.specs.declared.Side.TheVariants.{Left, Right}
-use Rattle.pairing.specs.Closure.{Closure}
 use Rattle.pairing.specs.Outnumbering.{Outnumbers, OutnumberedApart}
-use Rattle.pairing.specs.Answers.{Shows, OutnumbersFrom}
+use Rattle.pairing.specs.Answers.{Shows}
 use Rattle.worked_examples.specs.Setting.{tokens, p, u, v, K}
 use Rattle.worked_examples.specs.Worked.{TwoAgainstOneEach}
 

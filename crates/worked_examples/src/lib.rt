@@ -1,4 +1,7 @@
 //! The worked examples that are proved, on the definitions that the contracts of the library use.
+
+#![tactic(auto)]
+
 ghost use Rattle.worked_examples.specs.Worked.{WorkedExamples};
 
 use pairing::outnumbered_is_apart;

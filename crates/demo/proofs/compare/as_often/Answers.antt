@@ -1,4 +1,4 @@
-use Rattle.std.proofs.Common.{true, false, eqb, get_or, count_by, sym, ap, ◌∙◌}
+use Rattle.std.proofs.Common.{true, false, get_or, count_by, sym, ◌∙◌}
 use Rattle.std.proofs.lemmas.List.{at_drop_all}
 use Rattle.std.proofs.lemmas.Bool.{eq-eqb, ne_eqb}
 use Rattle.bags.specs.Exact.{same_pair}
