@@ -1,7 +1,7 @@
 -- Lists that pass, and lists that do not.
-use Rattle.std.proofs.Common.{◌≡◌, ℕ, Bool, true, false, List, [], ◌∷◌, refl}
+use Rattle.std.proofs.Common.{◌≡◌, ℕ, true, false, List, [], ◌∷◌, refl}
 use Rattle.places.specs.Sets.{tokens_below}
-use Rattle.arc_lists.specs.Lists.{list_passes, arcs_meaning, list_meaning}
+use Rattle.arc_lists.specs.Lists.{list_passes, arcs_meaning}
 use Rattle.arc_lists.specs.declared.arc.Arc.{Arc}
 
 abbrev arc : ℕ → ℕ → ℕ → ℕ → Arc

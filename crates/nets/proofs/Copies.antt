@@ -1,10 +1,8 @@
 -- A table of rows that were copied from a net has the net's meaning.
-use Rattle.std.proofs.Common.{◌≡◌, ℕ, ◌+◌, ◌<◌, ◌≤◌, Bool, true, false, cond, ◌&&◌, ltb, ◌⊎◌, List, length, get_or, set, replicate, sym, refl, ap, ◌∙◌, subst, inl, inr, arith}
+use Rattle.std.proofs.Common.{◌≡◌, ℕ, ◌+◌, ◌<◌, ◌≤◌, Bool, false, cond, ◌&&◌, ltb, List, length, get_or, set, replicate, sym, refl, ap, ◌∙◌, subst, inl, inr, arith}
 use mathlib.Core.Path.{fun_ext}
 use Rattle.std.proofs.lemmas.List.{get_or-set_same, get_or-set_other, length-set}
 use Rattle.std.proofs.lemmas.Bool.{cases_eq, cases_lt, lt-ltb, le-ltb, and_from, and_left, and_right}
-use Rattle.places.specs.Bags.{Bag}
-use Rattle.places.specs.Sets.{Subset}
 use Rattle.nets.specs.Meaning.{Meaning, Limits}
 use Rattle.nets.specs.Rows.{blank, row_at, tabled}
 use Rattle.nets.specs.Copies.{Filled, RowOf, RowsOf}

@@ -1,5 +1,5 @@
 -- Firing and the number of tokens.
-use Rattle.std.proofs.Common.{◌≡◌, ℕ, ◌+◌, ap, arith}
+use Rattle.std.proofs.Common.{◌≡◌, ap, arith}
 use mathlib.Core.Path.{fun_ext}
 use Rattle.places.specs.Bags.{◌⊕◌, ◌⊖◌}
 use Rattle.places.specs.Sets.{everywhere, size}

@@ -1,5 +1,5 @@
 -- Tables of rows, a row for each transition. Assumes nothing.
-use Rattle.std.specs.Prelude.{ℕ, ◌^◌, ◌<◌, ◌≤◌, Bool, false, cond, ◌&&◌, List, [], nat_lt, slice_index, slice_index_or}
+use Rattle.std.specs.Prelude.{ℕ, ◌^◌, ◌<◌, ◌≤◌, false, cond, ◌&&◌, List, [], nat_lt, slice_index, slice_index_or}
 use Rattle.std.proofs.Common.{ap}
 use Rattle.std.proofs.lemmas.Bool.{le-ltb, and_left, and_right}
 use Rattle.places.specs.Sets.{size}

@@ -8,10 +8,10 @@ pub loop-t-init : goal.loop-t-init
 loop-t-init c = refl
 
 pub loop-t-preserved : goal.loop-t-preserved
-loop-t-preserved c = sums_more c.args.arcs.now c.loop-t.t ∙ and_from (sums_pass c.loop-t.t c.args.arcs.now) (sums_fit c.args.arcs.now c.loop-t.t) c.loop-t.invariant (sym c.both-fit.ensures ∙ c.if-not-both-fit.false)
+loop-t-preserved c = sums_more c.args.arcs.now c.loop-t.t ∙ and_from (sums_pass c.loop-t.t c.args.arcs.now) (sums_fit c.args.arcs.now c.loop-t.t) c.loop-t.invariant (sym c.both_fit.ensures ∙ c.if-not-both_fit.false)
 
-pub returns-then-not-both-fit : goal.returns-then-not-both-fit
-returns-then-not-both-fit c = sym (sums_not c.args.transitions c.args.arcs.now c.loop-t.t c.loop-t-test.true (sym c.both-fit.ensures ∙ c.if-not-both-fit.true))
+pub returns-then-not-both_fit : goal.returns-then-not-both_fit
+returns-then-not-both_fit c = sym (sums_not c.args.transitions c.args.arcs.now c.loop-t.t c.loop-t-test.true (sym c.both_fit.ensures ∙ c.if-not-both_fit.true))
 
 pub returns : goal.returns
 returns c =

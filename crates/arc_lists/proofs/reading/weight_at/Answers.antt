@@ -7,8 +7,8 @@ loop-a-init c = (omega arith, omega arith)
 
 pub loop-a-preserved : goal.loop-a-preserved
 loop-a-preserved c = (
-  weight_more _ c.args.kind c.args.t c.args.p _ _ _ _ _ c.loop-a-test.true c.weight-of.ensures c.saturating-add-sum.ensures ∙ c.loop-a.invariant.0,
-  omega (arith, c.saturating-add-sum.ensures),
+  weight_more _ c.args.kind c.args.t c.args.p _ _ _ _ _ c.loop-a-test.true c.weight_of.ensures c.saturating_add-sum.ensures ∙ c.loop-a.invariant.0,
+  omega (arith, c.saturating_add-sum.ensures),
 )
 
 pub returns : goal.returns

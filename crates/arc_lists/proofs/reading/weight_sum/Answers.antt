@@ -9,7 +9,7 @@ pub loop-p-init : goal.loop-p-init
 loop-p-init c = sym (ap (λ n. min n 255) (tokens_none everywhere (arc_bag c.args.kind c.args.arcs.now c.args.t)))
 
 pub loop-p-preserved : goal.loop-p-preserved
-loop-p-preserved c = sum_more (arc_bag c.args.kind c.args.arcs.now c.args.t) c.loop-p.p _ _ _ c.loop-p.invariant c.weight-at.ensures c.saturating-add-sum.ensures
+loop-p-preserved c = sum_more (arc_bag c.args.kind c.args.arcs.now c.args.t) c.loop-p.p _ _ _ c.loop-p.invariant c.weight_at.ensures c.saturating_add-sum.ensures
 
 pub returns : goal.returns
 returns c =

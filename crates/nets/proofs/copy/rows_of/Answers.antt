@@ -1,5 +1,5 @@
-use Rattle.std.proofs.Common.{sym, subst, arith}
-use Rattle.nets.specs.Meaning.{Meaning, Limits}
+use Rattle.std.proofs.Common.{sym, subst}
+use Rattle.nets.specs.Meaning.{Limits}
 use Rattle.nets.specs.Rows.{tabled}
 use Rattle.nets.proofs.Copies.{rows_none, rows_more, rows_all, copied}
 use Rattle.nets.proofs.copy.rows_of.Goals as goal
@@ -8,7 +8,7 @@ pub loop-t-init : goal.loop-t-init
 loop-t-init g c = rows_none _
 
 pub loop-t-preserved : goal.loop-t-preserved
-loop-t-preserved g c = rows_more c.row-of.result c.loop-t-test.true c.row-of.ensures c.loop-t.invariant
+loop-t-preserved g c = rows_more c.row_of.result c.loop-t-test.true c.row_of.ensures c.loop-t.invariant
 
 pub returns : goal.returns
 returns g c =

@@ -6,4 +6,4 @@ use Rattle.arc_lists.proofs.list.weighing.listed_weight.Goals as goal
 pub returns : goal.returns
 returns c =
     let l = c.args.list.now in
-    c.weight-at.ensures ∙ capped_is (weights c.args.kind c.args.t c.args.p l.arcs.now) (weights_few l.places l.labels.now l.arcs.now c.args.kind c.args.t c.args.p l.passed c.requires)
+    c.weight_at.ensures ∙ capped_is (weights c.args.kind c.args.t c.args.p l.arcs.now) (weights_few l.places l.labels.now l.arcs.now c.args.kind c.args.t c.args.p l.passed c.requires)
