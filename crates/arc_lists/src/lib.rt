@@ -1,4 +1,7 @@
 //! Arc records of the caller, read in place as a net.
+
+#![tactic(auto)]
+
 ghost use Rattle.std.specs.Prelude.{◌≡◌};
 ghost use Rattle.arc_lists.specs.Lists.{list_passes};
 ghost use Rattle.arc_lists.specs.Refusals.{arc_list_number, checked};

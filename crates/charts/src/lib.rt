@@ -1,5 +1,8 @@
 //! Charts: full tables of a net, with names and declared markings.
 
+#![tactic(auto)]
+
+
 mod chart;
 mod heading;
 mod name_table;

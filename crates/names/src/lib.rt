@@ -1,4 +1,7 @@
 //! Names of 1 to 8 bytes, each packed into one number.
+
+#![tactic(auto)]
+
 ghost use Rattle.names.specs.Names.{PackedOnce};
 
 mod letters;

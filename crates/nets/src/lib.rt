@@ -1,4 +1,7 @@
 //! Nets, known by their meaning.
+
+#![tactic(auto)]
+
 ghost use Rattle.std.specs.Prelude.{◌≡◌};
 ghost use Rattle.nets.specs.Firing.{FiringCounts};
 ghost use Rattle.nets.specs.Meaning.{Limits, Meaning};

@@ -6,7 +6,7 @@ use Rattle.names.proofs.numbers.is_packed_name.Goals as goal
 
 pub returns : goal.returns
 returns c = record {
-  value = c.holds-name.ensures;
-  yes = λ e. packed_name c.args.number (sym c.holds-name.ensures ∙ e);
-  no = λ e i. both_ways c.holds-name.result e (c.holds-name.ensures ∙ name_packed c.args.number i);
+  value = c.holds_name.ensures;
+  yes = λ e. packed_name c.args.number (sym c.holds_name.ensures ∙ e);
+  no = λ e i. both_ways c.holds_name.result e (c.holds_name.ensures ∙ name_packed c.args.number i);
 }

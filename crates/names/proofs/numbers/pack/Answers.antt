@@ -5,7 +5,7 @@ use Rattle.names.proofs.numbers.pack.Goals as goal
 
 pub returns : goal.returns
 returns c = record {
-  value = c.pack-bytes.ensures;
-  named = ap is_packed c.pack-bytes.ensures ∙ packed_is c.args.bytes.now c.requires;
-  text = ap text_in c.pack-bytes.ensures ∙ text_back c.args.bytes.now c.requires;
+  value = c.pack_bytes.ensures;
+  named = ap is_packed c.pack_bytes.ensures ∙ packed_is c.args.bytes.now c.requires;
+  text = ap text_in c.pack_bytes.ensures ∙ text_back c.args.bytes.now c.requires;
 }
