@@ -1,5 +1,6 @@
 -- The steps of a sequence on lists.
-use Rattle.std.proofs.Common.{◌≡◌, ℕ, zero, suc, ◌+◌, ◌-◌, ◌<◌, ◌≤◌, Bool, true, false, List, [], ◌∷◌, ◌++◌, length, get_or, take, drop, set, All, sym, refl, ap, ◌∙◌, subst, add-one, arith}
+use Rattle.std.specs.List.{All}
+use Rattle.std.proofs.Common.{◌≡◌, ℕ, zero, suc, ◌+◌, ◌-◌, ◌<◌, ◌≤◌, Bool, true, false, List, [], ◌∷◌, ◌++◌, length, get_or, take, drop, set, sym, refl, ap, ◌∙◌, subst, add-one, arith}
 use Rattle.std.proofs.lemmas.List.{take_more, take_all, take-take, drop_all, length-take, length-set, append-nil, append_assoc, take-append-le, drop-append-le, take_more_set, drop-set-lt, drop-drop, get_or-drop}
 use Rattle.std.specs.List.{remove}
 use Rattle.bags.specs.Equality.{Counts, none, one, other, Removes, absent, here, later}
@@ -67,13 +68,13 @@ module _ {X : Type 0} {E : X → Bool → Type 0} where
   -- no element of the list is the one that is sought
   pub removes_none : (xs : List X) → All (λ y. E y false) xs → Removes E xs false xs
   removes_none [] h = absent
-  removes_none (x ∷ xs) h = later x xs false xs h.0 (removes_none xs h.1)
+  removes_none (x ∷ xs) h = later x xs false xs (h 0 x (omega arith)) (removes_none xs (λ k d l. h (suc k) d (omega arith)))
 
   -- the earliest stands at i
   pub removes_at : (xs : List X) (i : ℕ) (d : X) → i < length xs → All (λ y. E y false) (take i xs) → E (get_or xs i d) true → Removes E xs true (remove xs i)
   removes_at [] i d l h e = absurd (omega arith)
   removes_at (x ∷ xs) zero d l h e = here x xs e
-  removes_at (x ∷ xs) (suc i) d l h e = later x xs true (remove xs i) h.0 (removes_at xs i d (omega arith) h.1 e)
+  removes_at (x ∷ xs) (suc i) d l h e = later x xs true (remove xs i) (h 0 x (omega arith)) (removes_at xs i d (omega arith) (λ k b m. h (suc k) b (omega arith)) e)
 
   -- one element further on
   pub counts_more_one : (xs : List X) (i n m : ℕ) (x : X) → i < length xs → x ≡ get_or xs i x → m ≡ n + 1 → Counts E (take i xs) n → E x true → Counts E (take (i + 1) xs) m

@@ -1,9 +1,8 @@
 -- Counting and removing where the equality is that of the values: the laws that callers use. Assumes nothing.
-use Rattle.std.specs.Prelude.{◌≡◌, ℕ, suc, ◌+◌, Bool, true, false, cond, ◌&&◌, List, [], ◌∷◌, Decides, count_by, ◌==◌, nat_eq, refl}
+use Rattle.std.specs.Prelude.{◌≡◌, ℕ, suc, Bool, true, false, cond, ◌&&◌, List, [], ◌∷◌, Decides, MatchBool, count_by, ◌==◌, nat_eq, refl}
 use Rattle.std.proofs.Common.{sym, ap, ◌∙◌, arith}
-use Rattle.std.specs.Ordering.{And}
 use Rattle.std.proofs.lemmas.List.Sums.{sum_by-cons}
-use Rattle.std.proofs.lemmas.Bool.{eqb-true, eq-eqb, false≢true}
+use Rattle.std.proofs.lemmas.Bool.{eqb-true, eq-eqb}
 use Rattle.bags.specs.Equality.{Counts, none, one, other, Removes, absent, here, later}
 
 -- whether an element passes the test
@@ -20,12 +19,13 @@ without e (y ∷ ys) = cond (e y) ys (y ∷ without e ys)
 abbrev pub same_pair : (ℕ × ℕ) → (ℕ × ℕ) → Bool
 same_pair x y = x.0 == y.0 && x.1 == y.1
 
--- what the equality of numbers, and that of pairs of numbers, may answer
+-- what the equality of numbers, and that of pairs of numbers, may answer: that of pairs asks for the second numbers only
+-- where the first are equal
 abbrev pub NumberEquals : ℕ → ℕ → Bool → Type 0
 NumberEquals x y b = Decides b (y ≡ x)
 
 abbrev pub PairEquals : (ℕ × ℕ) → (ℕ × ℕ) → Bool → Type 0
-PairEquals x y b = And (NumberEquals x.0 y.0) (NumberEquals x.1 y.1) b
+PairEquals x y b = (first : Bool) × NumberEquals x.0 y.0 first × MatchBool first (NumberEquals x.1 y.1 b) (b ≡ false)
 
 -- where the equality can only answer as the test does, counting counts what passes the test
 pub counts_by : {X : Type 0} {E : X → Bool → Type 0} (e : X → Bool) → ((y : X) (b : Bool) → E y b → b ≡ e y) → (xs : List X) (n : ℕ) → Counts E xs n → n ≡ count_by e xs
@@ -64,8 +64,23 @@ abbrev pub ExactRemoves : Type 0
 ExactRemoves = ((x : ℕ) (xs : List ℕ) (found : Bool) (zs : List ℕ) → Removes (NumberEquals x) xs found zs → (found ≡ some_passes (λ y. nat_eq y x) xs) × (zs ≡ without (λ y. nat_eq y x) xs))
     × ((x : ℕ × ℕ) (xs : List (ℕ × ℕ)) (found : Bool) (zs : List (ℕ × ℕ)) → Removes (PairEquals x) xs found zs → (found ≡ some_passes (λ y. same_pair y x) xs) × (zs ≡ without (λ y. same_pair y x) xs))
 
+-- and so they are about the answer that the contracts name at places and at pairs of places
+abbrev pub EqualCounts : Type 0
+EqualCounts = ((x : ℕ) (xs : List ℕ) (n : ℕ) → Counts (λ y b. b ≡ nat_eq y x) xs n → n ≡ count_by (λ y. nat_eq y x) xs)
+    × ((x : ℕ × ℕ) (xs : List (ℕ × ℕ)) (n : ℕ) → Counts (λ y b. b ≡ (nat_eq y.0 x.0 && nat_eq y.1 x.1)) xs n → n ≡ count_by (λ y. same_pair y x) xs)
+
+abbrev pub EqualRemoves : Type 0
+EqualRemoves = ((x : ℕ) (xs : List ℕ) (found : Bool) (zs : List ℕ) → Removes (λ y b. b ≡ nat_eq y x) xs found zs → (found ≡ some_passes (λ y. nat_eq y x) xs) × (zs ≡ without (λ y. nat_eq y x) xs))
+    × ((x : ℕ × ℕ) (xs : List (ℕ × ℕ)) (found : Bool) (zs : List (ℕ × ℕ)) → Removes (λ y b. b ≡ (nat_eq y.0 x.0 && nat_eq y.1 x.1)) xs found zs → (found ≡ some_passes (λ y. same_pair y x) xs) × (zs ≡ without (λ y. same_pair y x) xs))
+
 pub exact_counts : ExactCounts
 exact_counts = (λ x. counts_by (λ y. nat_eq y x) (number_tells x), λ x. counts_by (λ y. same_pair y x) (pair_tells x))
 
 pub exact_removes : ExactRemoves
 exact_removes = (λ x. removes_by (λ y. nat_eq y x) (number_tells x), λ x. removes_by (λ y. same_pair y x) (pair_tells x))
+
+pub equal_counts : EqualCounts
+equal_counts = (λ x. counts_by (λ y. nat_eq y x) (λ y b h. h), λ x. counts_by (λ y. same_pair y x) (λ y b h. h))
+
+pub equal_removes : EqualRemoves
+equal_removes = (λ x. removes_by (λ y. nat_eq y x) (λ y b h. h), λ x. removes_by (λ y. same_pair y x) (λ y b h. h))

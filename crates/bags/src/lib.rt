@@ -1,5 +1,7 @@
 //! Ordered sequences in a fixed room: the tokens of a player, the pairs that a tandem holds.
 
+#![tactic(auto)]
+
 mod exact;
 mod parts;
 mod room;

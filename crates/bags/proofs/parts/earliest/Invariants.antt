@@ -1,4 +1,5 @@
-use Rattle.std.proofs.Common.{◌≡◌, false, take, All}
+use Rattle.std.specs.List.{All}
+use Rattle.std.proofs.Common.{◌≡◌, false, take}
 use Rattle.bags.proofs.parts.earliest.Given as goal
 
 abbrev pub invariant-loop-i : goal.invariant-loop-i

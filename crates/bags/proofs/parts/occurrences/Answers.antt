@@ -1,4 +1,4 @@
-use Rattle.std.proofs.Common.{[], arith}
+use Rattle.std.proofs.Common.{arith}
 use Rattle.bags.specs.Equality.{none}
 use Rattle.bags.proofs.Steps.{counts_more_one, counts_more_other, counts_all}
 use Rattle.bags.proofs.parts.occurrences.Goals as goal

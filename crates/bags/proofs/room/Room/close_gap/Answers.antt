@@ -1,4 +1,4 @@
-use Rattle.std.proofs.Common.{◌+◌, ◌-◌, ◌≤◌, ◌∙◌, arith}
+use Rattle.std.proofs.Common.{◌-◌, ◌≤◌, ◌∙◌, arith}
 use Rattle.bags.proofs.Steps.{moved_none, moved_more, moved_all}
 use Rattle.bags.proofs.room.Room.close_gap.Goals as goal
 

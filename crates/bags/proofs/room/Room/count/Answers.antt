@@ -1,5 +1,5 @@
 use native.Mathlib.Nat.{sub-zero}
-use Rattle.std.proofs.Common.{◌≡◌, take, ap, subst}
+use Rattle.std.proofs.Common.{◌≡◌, take, subst}
 use Rattle.bags.specs.Equality.{Counts}
 use Rattle.bags.proofs.room.Room.count.Goals as goal
 

@@ -8,9 +8,9 @@ use Rattle.bags.proofs.room.Room.remove.Goals as goal
 pub returns-in-Some : goal.returns-in-Some
 returns-in-Some g c =
     record {
-      long = c.close-gap.ensures.long;
+      long = c.close_gap.ensures.long;
       some = omega (arith, c.in-Some.ensures.0, length-take (c.args.len - 0) c.args.self.now.cells, sub-zero c.args.len);
-      after = subst (Removes (λ y b. b ≡ g.T.PartialEq.eq y c.args.x) (take c.args.len c.args.self.now.cells) true) (sym c.close-gap.ensures.after)
+      after = subst (Removes (λ y b. b ≡ g.T.PartialEq.eq y c.args.x) (take c.args.len c.args.self.now.cells) true) (sym c.close_gap.ensures.after)
           (subst (λ n. Removes (λ y b. b ≡ g.T.PartialEq.eq y c.args.x) (take n c.args.self.now.cells) true (remove (take n c.args.self.now.cells) c.in-Some.i)) (sub-zero c.args.len) c.in-Some.ensures.1);
     }
 
