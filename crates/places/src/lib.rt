@@ -1,4 +1,7 @@
 //! Places, numbered from 0 to 15: bags, sets and relations of places.
+
+#![tactic(auto)]
+
 ghost use Rattle.std.specs.Prelude.{◌≡◌};
 ghost use Rattle.places.specs.Refusals.{lay_number};
 

@@ -6,8 +6,8 @@ use Rattle.places.specs.Laws.{tokens_at, size_plus}
 use Rattle.places.proofs.Steps.{plus_one}
 use Rattle.places.proofs.tables.plus_one.Goals as goal
 
-pub overflow-add-counts : goal.overflow-add-counts
-overflow-add-counts c = omega (arith, c.requires.1, tokens_at 16 everywhere (counted c.args.counts.now) c.args.p c.requires.0 refl)
+pub overflow_add-counts : goal.overflow_add-counts
+overflow_add-counts c = omega (arith, c.requires.1, tokens_at 16 everywhere (counted c.args.counts.now) c.args.p c.requires.0 refl)
 
 pub returns : goal.returns
 returns c =
