@@ -1,4 +1,7 @@
 //! Faults of texts: what is wrong, in which line and at which column.
+
+#![tactic(auto)]
+
 ghost use Rattle.faults.specs.Laws.{TokenLaws};
 
 mod causes;

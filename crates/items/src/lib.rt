@@ -1,4 +1,7 @@
 //! The items of a net text: arcs, inhibitors and markings, by the bytes of a word.
+
+#![tactic(auto)]
+
 ghost use Rattle.std.specs.Prelude.{◌≡◌};
 ghost use Rattle.items.specs.Exactly.{WrittenExactly};
 ghost use Rattle.items.specs.Items.{input_item, output_item};

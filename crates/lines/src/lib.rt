@@ -1,4 +1,7 @@
 //! A text cut into lines, and a line into words with their columns.
+
+#![tactic(auto)]
+
 ghost use Rattle.lines.specs.Laws.{LinesJoin, WordsRebuild};
 
 mod bytes;

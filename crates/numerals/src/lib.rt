@@ -1,4 +1,7 @@
 //! Numbers as texts write them: one to five digits.
+
+#![tactic(auto)]
+
 ghost use Rattle.std.specs.Prelude.{◌≡◌, true};
 ghost use Rattle.numerals.specs.Numerals.{all_digits, is_digit, is_numeral, numeral, starts_with_zero, value_after};
 
