@@ -1,21 +1,18 @@
 -- The verdict accepts exactly the place bisimulations; the obligation with which it refuses breaks one.
-use Rattle.std.proofs.Common.{◌≡◌, ℕ, ◌+◌, ◌<◌, ◌≤◌, Bool, true, false, ◌⊎◌, ◌↔◌, List, [], ◌∷◌, ◌++◌, length, Some, None, Option, sym, refl, ap, ◌∙◌, subst, inl, inr, arith}
+use Rattle.std.proofs.Common.{◌≡◌, ℕ, ◌<◌, true, ◌⊎◌, ◌↔◌, List, length, Some, None, Option, sym, refl, ap, ◌∙◌, subst, inl, inr, arith}
 use Rattle.std.proofs.lemmas.Bool.{false≢true}
 use Rattle.places.specs.Bags.{Bag}
 use Rattle.places.specs.Sets.{PlaceRelation, turned}
-use Rattle.places.specs.declared.Side.{Side}
 use Rattle.places.specs.declared.Side.TheVariants.{Left, Right}
-use Rattle.pairing.specs.Closure.{Closure}
 use Rattle.pairing.specs.Laws.{turned_closure, moved}
 use Rattle.nets.specs.Meaning.{Meaning, Limits}
-use Rattle.nets.specs.Firing.{pre_set, Enabled}
-use Rattle.bisimulation.specs.Bisimulation.{between, Matches, Bisimulation}
+use Rattle.bisimulation.specs.Bisimulation.{between, Bisimulation}
 use Rattle.bisimulation.specs.Obligations.{Obligation, Answer, Given, AllAnswered, Answered}
 use Rattle.bisimulation.specs.Lists.{tokens_of, list_of, lists, ascends}
-use Rattle.bisimulation.specs.Verdicts.{takes, obliges, answer_for, bags_for, ObligationAt, obligations_below, obligations, answer_to, first_open, judged, Verdict, accepted, refused, verdict_of}
-use Rattle.bisimulation.specs.Theorems.{is_accepted, AcceptedExactly, BreaksFromLeft, BreaksFromRight, Breaks, RefusedBreaks, GivenOn, AnswerGiven}
+use Rattle.bisimulation.specs.Verdicts.{takes, obliges, answer_for, bags_for, ObligationAt, obligations_below, obligations, answer_to, first_open, judged, refused, verdict_of}
+use Rattle.bisimulation.specs.Theorems.{is_accepted, AcceptedExactly, BreaksFromLeft, BreaksFromRight, Breaks, RefusedBreaks, AnswerGiven}
 use Rattle.bisimulation.proofs.Among.{In, in_left, in_right, in_either, in_keep, keep_in, first_in, all_answered, none_open}
-use Rattle.bisimulation.proofs.Decides.{decides, Follows, own_enabled, answer_from, turned_match}
+use Rattle.bisimulation.proofs.Decides.{decides, own_enabled, answer_from, turned_match}
 use Rattle.bisimulation.specs.Spelled.{spelled, list_ascends, one_length, ascends_size, ascends_up}
 use Rattle.bisimulation.proofs.Listed.{Bounded, bounded_between, bounded_turned, beyond, takes_are, obliged, obliging, given, among, among_ascends, in_obligations, From, obligations_in}
 

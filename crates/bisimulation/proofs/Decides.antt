@@ -1,12 +1,12 @@
 -- Every obligation has an answer exactly when the relation is a place bisimulation.
-use Rattle.std.proofs.Common.{◌≡◌, ℕ, ◌+◌, ◌-◌, ◌<◌, ◌≤◌, Bool, true, T, ◌⊎◌, sym, refl, ◌∙◌, subst, inl, inr, arith}
+use Rattle.std.proofs.Common.{◌≡◌, ℕ, true, sym, refl, ◌∙◌, inl, inr, arith}
 use Rattle.std.proofs.lemmas.Bool.{cases_eq}
-use Rattle.places.specs.Bags.{Bag, ◌⊖◌, ◌⊆◌}
+use Rattle.places.specs.Bags.{Bag}
 use Rattle.places.specs.Sets.{PlaceRelation, turned}
 use Rattle.pairing.specs.Closure.{Closure}
-use Rattle.pairing.specs.Laws.{turned_closure, moved, partner, emptied, Chosen, choose}
+use Rattle.pairing.specs.Laws.{turned_closure, moved, partner, emptied, choose}
 use Rattle.nets.specs.Meaning.{Meaning}
-use Rattle.nets.specs.Firing.{pre_set, post_set, SelfBlocked, Enabled}
+use Rattle.nets.specs.Firing.{pre_set, Enabled}
 use Rattle.bisimulation.specs.Bisimulation.{between, Alike, Matches, Bisimulation}
 use Rattle.bisimulation.specs.Obligations.{Obligation, Answer, AllAnswered, Answered}
 use Rattle.bisimulation.specs.Theorems.{AnswersDecide}

@@ -1,24 +1,22 @@
 -- Lists of places stand for the bags of the obligations.
-use Rattle.std.proofs.Common.{◌≡◌, ℕ, zero, suc, ◌+◌, ◌-◌, ◌<◌, ◌≤◌, Bool, true, false, cond, not, ◌&&◌, ◌||◌, T, eqb, ltb, leb, ◌⊎◌, List, [], ◌∷◌, ◌++◌, map, length, Some, None, Option, sym, refl, ap, ◌∙◌, subst, inl, inr, arith, ltb→lt}
+use Rattle.std.proofs.Common.{◌≡◌, ℕ, zero, suc, ◌<◌, ◌≤◌, Bool, true, false, cond, not, ◌&&◌, ◌||◌, T, eqb, ltb, List, [], ◌∷◌, map, length, Some, None, Option, sym, refl, ap, ◌∙◌, subst, inl, inr, arith}
 use mathlib.Core.Path.{fun_ext}
-use Rattle.std.proofs.lemmas.Bool.{cases_eq, cases_lt, cases_Bool, eqb-true, eq-eqb, ne_eqb, lt-ltb, ltb-true, le-leb, leb-true, and_parts, and_from, false≢true, both_ways, not-true, not_from_false, or_left, or_right, cond-true, cond-false}
-use Rattle.places.specs.Bags.{Bag, single, ◌⊕◌}
+use Rattle.std.proofs.lemmas.Bool.{cases_eq, cases_lt, cases_Bool, eqb-true, eq-eqb, lt-ltb, ltb-true, and_parts, and_from, false≢true, both_ways, not-true, not_from_false}
+use Rattle.places.specs.Bags.{Bag}
 use Rattle.places.specs.Sets.{PlaceRelation, turned}
-use Rattle.places.specs.Laws.{single_same, single_other}
 use Rattle.places.specs.declared.Side.{Side}
-use Rattle.places.specs.declared.Side.TheVariants.{Left, Right}
 use Rattle.pairing.specs.Closure.{Closure}
 use Rattle.pairing.specs.Laws.{T_of, of_T, some_from, some_is, moved, partner}
 use Rattle.nets.specs.Meaning.{Meaning, Limits}
 use Rattle.nets.specs.Firing.{pre_set, post_set, SelfBlocked}
 use Rattle.bisimulation.specs.Bisimulation.{between, Alike}
-use Rattle.bisimulation.specs.Obligations.{Obligation, Answer, Given, AllAnswered}
-use Rattle.bisimulation.specs.Lists.{tokens_of, pile, list_from, list_of, same_list, related_lists, lists, times, ascends}
-use Rattle.bisimulation.specs.Verdicts.{keep, all_below, lowest_below, takes, gives, self_blocked, obliges, same_truth, alike, answers, answer_for, bags_for, ObligationAt, obligations_below}
-use Rattle.bisimulation.proofs.Among.{In, in_left, in_right, in_either, in_map, map_in, in_keep, keep_in, all_from, all_at, Lowest, lowest}
+use Rattle.bisimulation.specs.Obligations.{Obligation, Answer, Given}
+use Rattle.bisimulation.specs.Lists.{tokens_of, list_of, same_list, related_lists, lists, times, ascends}
+use Rattle.bisimulation.specs.Verdicts.{all_below, lowest_below, takes, gives, self_blocked, obliges, same_truth, alike, answers, answer_for, bags_for, ObligationAt, obligations_below}
+use Rattle.bisimulation.proofs.Among.{In, in_left, in_right, in_either, in_map, map_in, all_from, all_at, Lowest, lowest}
 use Rattle.bisimulation.proofs.Enumerated.{each_once}
 use Rattle.bisimulation.specs.Related.{tests}
-use Rattle.bisimulation.specs.Spelled.{spelled, list_ascends, one_length, same_is, is_same, ascending_list, ascends_below}
+use Rattle.bisimulation.specs.Spelled.{spelled, same_is, is_same, ascending_list, ascends_below}
 
 -- the relation has only places below the two numbers
 pub record Bounded (left right : ℕ) (R : PlaceRelation) : Type 0 where

@@ -1,14 +1,13 @@
 -- A net of two places with one transition that takes a token from each and gives it back: the identity and the exchange
 -- of the two places are place bisimulations, and their union is not, since under it two tokens on one place are related
 -- to one on each.
-use Rattle.std.proofs.Common.{◌≡◌, ℕ, ◌+◌, ◌^◌, ◌<◌, ◌≤◌, Bool, true, false, cond, ◌&&◌, eqb, ltb, ◌⊎◌, List, [], ◌∷◌, sym, refl, ap, ◌∙◌, subst, inl, inr, arith, lit<, lit≤}
-use Rattle.std.proofs.lemmas.Bool.{cases_eq, lt-ltb, le-ltb, cases_lt, false≢true}
+use Rattle.std.proofs.Common.{◌≡◌, ◌+◌, ◌^◌, ◌<◌, ◌≤◌, true, false, cond, eqb, List, [], ◌∷◌, sym, refl, ◌∙◌, subst, inl, inr, arith, lit<, lit≤}
+use Rattle.std.proofs.lemmas.Bool.{cases_eq, le-ltb, false≢true}
 use Rattle.places.specs.Sets.{PlaceRelation, tokens_below, size}
 use Rattle.nets.specs.Meaning.{Meaning, Limits}
 use Rattle.nets.specs.Rows.{row_at, tabled, tabled_limits, InputsKept, OutputsKept, LabelsKept}
 use Rattle.nets.specs.declared.row.Row.{Row}
-use Rattle.bisimulation.specs.Bisimulation.{between, Bisimulation}
-use Rattle.bisimulation.specs.Lists.{pile, list_from, list_of, same_list, some_pick, is_nil, related_lists, lists_from, lists}
+use Rattle.bisimulation.specs.Lists.{list_of, same_list, related_lists, lists}
 use Rattle.bisimulation.specs.Verdicts.{verdict_of}
 use Rattle.bisimulation.specs.Theorems.{is_accepted, either, UnionFails}
 use Rattle.bisimulation.proofs.Accepts.{accepted_exactly}

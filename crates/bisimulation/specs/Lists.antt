@@ -1,5 +1,5 @@
 -- Bags of places as ascending lists: a place stands in the list as often as the bag holds it. Assumes nothing.
-use Rattle.std.specs.Prelude.{◌≡◌, ℕ, zero, suc, ◌+◌, Bool, true, false, cond, ◌&&◌, ◌||◌, T, List, [], ◌∷◌, ◌++◌, map, ◌==◌, nat_le, nat_lt}
+use Rattle.std.specs.Prelude.{ℕ, zero, suc, ◌+◌, Bool, true, false, cond, ◌&&◌, ◌||◌, T, List, [], ◌∷◌, ◌++◌, map, ◌==◌, nat_le, nat_lt}
 use Rattle.places.specs.Bags.{Bag, empty, single, ◌⊕◌}
 use Rattle.places.specs.Sets.{PlaceRelation}
 

@@ -1,6 +1,6 @@
 -- Obligations and their answers, for a net that moves and the other net. Assumes nothing.
 -- The right side has the same definitions, at the exchanged nets and the turned relation.
-use Rattle.std.specs.Prelude.{◌≡◌, ℕ, ◌<◌, ◌↔◌, Some, None, Option}
+use Rattle.std.specs.Prelude.{◌≡◌, ℕ, ◌<◌, Some, None, Option}
 use Rattle.places.specs.Bags.{Bag}
 use Rattle.places.specs.Sets.{PlaceRelation, turned}
 use Rattle.pairing.specs.Closure.{Closure}

@@ -1,13 +1,13 @@
 -- The test on lists and the closure: laws that the crates above use. Assumes nothing.
-use Rattle.std.specs.Prelude.{◌≡◌, ℕ, ◌+◌, ◌<◌, Bool, true, false, cond, T, ◌⊎◌, List, [], ◌∷◌, ◌++◌, refl}
-use Rattle.std.proofs.Common.{sym, ap, ◌∙◌, subst, inl, inr, arith}
+use Rattle.std.specs.Prelude.{◌≡◌, ℕ, ◌+◌, ◌<◌, Bool, true, false, cond, List, [], ◌∷◌, ◌++◌, refl}
+use Rattle.std.proofs.Common.{sym, ap, ◌∙◌, inl, inr, arith}
 use Rattle.std.proofs.lemmas.Bool.{cases_eq, cases_Bool, false≢true, cond-true, cond-false}
 use Rattle.places.specs.Bags.{Bag, single, ◌⊕◌}
 use Rattle.places.specs.Sets.{PlaceRelation}
 use Rattle.places.specs.Laws.{single_same, single_other}
 use Rattle.pairing.specs.Closure.{Closure, none, more}
-use Rattle.pairing.specs.Laws.{T_of, of_T, moved, emptied, Picked, pick}
-use Rattle.bisimulation.specs.Lists.{tokens_of, some_pick, is_nil, related_lists}
+use Rattle.pairing.specs.Laws.{T_of, of_T, moved, emptied, pick}
+use Rattle.bisimulation.specs.Lists.{tokens_of, some_pick, related_lists}
 use Rattle.bisimulation.specs.Laws.{tokens_append}
 use Rattle.bisimulation.specs.Theorems.{ListsTested}
 

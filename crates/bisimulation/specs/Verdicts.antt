@@ -1,5 +1,5 @@
 -- The verdict, computed: all obligations in order, the answer to each, and the first that has none. Assumes nothing.
-use Rattle.std.specs.Prelude.{◌≡◌, ℕ, zero, suc, Bool, true, false, cond, not, ◌&&◌, ◌||◌, List, [], ◌∷◌, ◌++◌, map, length, Some, None, Option, ◌==◌, nat_lt}
+use Rattle.std.specs.Prelude.{ℕ, zero, suc, Bool, true, false, cond, not, ◌&&◌, ◌||◌, List, [], ◌∷◌, ◌++◌, map, length, Some, None, Option, ◌==◌, nat_lt}
 use Rattle.places.specs.Sets.{PlaceRelation, turned}
 use Rattle.places.specs.declared.Side.{Side}
 use Rattle.places.specs.declared.Side.TheVariants.{Left, Right}

@@ -1,4 +1,7 @@
 //! Place bisimulation of two nets with inhibitor arcs: definitions and theorems.
+
+#![tactic(auto)]
+
 ghost use Rattle.bisimulation.specs.Theorems.{AcceptedExactly, AnswerGiven, AnswersDecide, ListedInOrder, ListedOnce, ListsTested, RefusedBreaks, UnionFails};
 
 /// Every obligation has an answer exactly when the relation is a place bisimulation: a theorem.

@@ -1,6 +1,8 @@
 //! Runs examples of nets and verdicts through the library's public calls, prints all that it did, and compares with
 //! values worked by hand.
 
+#![tactic(auto)]
+
 mod cases;
 mod kinds;
 mod setup;

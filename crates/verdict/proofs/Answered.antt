@@ -1,13 +1,13 @@
 -- The answer to a bag.
-use Rattle.std.proofs.Common.{◌≡◌, ℕ, ◌+◌, ◌<◌, ◌≤◌, Bool, true, false, cond, not, ◌&&◌, ltb, List, length, Some, None, Option, sym, refl, ap, ◌∙◌, subst, inl, inr, arith}
+use Rattle.std.proofs.Common.{◌≡◌, ℕ, ◌<◌, ◌≤◌, false, not, ◌&&◌, ltb, length, None, Option, sym, subst, inl, inr, arith}
 use mathlib.Core.Path.{fun_ext}
-use Rattle.std.proofs.lemmas.Bool.{cases_Bool, cond-false, and_right, and_parts}
+use Rattle.std.proofs.lemmas.Bool.{cases_Bool, cond-false, and_right}
 use Rattle.places.specs.Bags.{Bag}
-use Rattle.places.specs.Sets.{PlaceRelation, everywhere, tokens_below, size, Placed}
+use Rattle.places.specs.Sets.{PlaceRelation, tokens_below, size, Placed}
 use Rattle.places.specs.declared.Side.{Side}
 use Rattle.nets.specs.Meaning.{Meaning, Limits}
 use Rattle.bisimulation.specs.Bisimulation.{between}
-use Rattle.bisimulation.specs.Lists.{tokens_of, list_from, list_of, related_lists, ascends}
+use Rattle.bisimulation.specs.Lists.{list_of, related_lists}
 use Rattle.bisimulation.specs.Related.{tests}
 use Rattle.bisimulation.specs.Spelled.{spelled, list_ascends, one_length}
 use Rattle.bisimulation.specs.Verdicts.{takes, self_blocked, obliges, answers, lowest_below, answer_for, answer_on}

@@ -1,15 +1,12 @@
 -- What a transition takes or gives, as a list.
-use Rattle.std.proofs.Common.{◌≡◌, ℕ, zero, suc, ◌+◌, ◌-◌, ◌<◌, ◌≤◌, true, cond, List, [], ◌∷◌, ◌++◌, length, get_or, set, replicate, sym, refl, ap, ◌∙◌, subst, inl, inr, append_assoc, append-nil, add-one, arith, length-append}
+use Rattle.std.proofs.Common.{◌≡◌, ℕ, zero, suc, ◌+◌, ◌-◌, ◌<◌, ◌≤◌, List, [], ◌∷◌, ◌++◌, length, get_or, set, replicate, sym, refl, ap, ◌∙◌, subst, inl, inr, append_assoc, append-nil, add-one, arith, length-append}
 use mathlib.Core.Path.{fun_ext}
 use Rattle.std.proofs.lemmas.List.{get_or-set_same, get_or-set_other, length-set}
 use Rattle.std.proofs.lemmas.Bool.{cases_eq, cases_lt}
-use Rattle.places.specs.Bags.{Bag, empty}
+use Rattle.places.specs.Bags.{Bag}
 use Rattle.places.specs.Sets.{everywhere, tokens_below, size}
 use Rattle.places.specs.Laws.{tokens_empty}
 use Rattle.nets.specs.Meaning.{Meaning, Limits}
-use Rattle.nets.specs.Firing.{pre_set, post_set}
-use Rattle.nets.specs.Tables.{table_meaning, table_limits}
-use Rattle.nets.specs.declared.table.Table.{Table}
 use Rattle.bisimulation.specs.Lists.{pile, list_from, list_of}
 use Rattle.bisimulation.specs.Verdicts.{takes, gives}
 use Rattle.verdict.specs.Search.{flow, flow_list, Outlined}

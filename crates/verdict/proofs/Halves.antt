@@ -1,13 +1,13 @@
 -- The obligations of one side.
-use Rattle.std.proofs.Common.{◌≡◌, ℕ, zero, suc, ◌+◌, ◌-◌, ◌*◌, ◌^◌, ◌<◌, ◌≤◌, Bool, true, false, cond, not, ◌&&◌, T, ltb, ◌⊎◌, ◌↔◌, List, [], ◌∷◌, ◌++◌, map, length, take, Some, None, Ok, Err, Option, Result, sym, refl, ap, ◌∙◌, subst, inl, inr, pow-suc, add-one, arith, length-append, pow_mono}
-use Rattle.std.proofs.lemmas.List.{length-map, map-append}
-use Rattle.std.proofs.lemmas.Bool.{cases_eq, cases_Bool, cond-false, and_left, and_right, and_from, lt-ltb, not_from_true, not_from_false}
+use Rattle.std.proofs.Common.{◌≡◌, ℕ, zero, suc, ◌+◌, ◌*◌, ◌^◌, ◌<◌, ◌≤◌, Bool, true, false, not, ◌&&◌, T, ltb, List, [], ◌∷◌, ◌++◌, map, length, take, Some, None, Ok, Err, Option, sym, refl, ap, ◌∙◌, subst, inl, inr, pow-suc, add-one, arith, length-append, pow_mono}
+use Rattle.std.proofs.lemmas.List.{length-map}
+use Rattle.std.proofs.lemmas.Bool.{cases_eq, cond-false, and_left, and_right, and_from, lt-ltb, not_from_true, not_from_false}
 use Rattle.places.specs.Sets.{PlaceRelation}
 use Rattle.places.specs.declared.Side.{Side}
 use Rattle.nets.specs.Meaning.{Meaning}
 use Rattle.bisimulation.specs.Lists.{is_nil, related_lists, lists_from, lists}
 use Rattle.bisimulation.specs.Verdicts.{keep, takes, self_blocked, obliges, answer_for, bags_for, ObligationAt, obligations_below, open_or, first_open}
-use Rattle.verdict.specs.Results.{obligation_at, at, SideJudged, JudgedBelow}
+use Rattle.verdict.specs.Results.{obligation_at, at, JudgedBelow}
 use Rattle.verdict.specs.Search.{bags_after, Passed}
 use Rattle.verdict.specs.declared.obligation.Obligation.{Obligation}
 use Rattle.verdict.proofs.Walks.{first_append, bags_length, or_else}

@@ -1,15 +1,14 @@
 -- Tokens that can be paired with places chosen and with later ones.
-use Rattle.std.proofs.Common.{◌≡◌, ℕ, zero, suc, ◌+◌, ◌-◌, ◌<◌, ◌≤◌, Bool, true, false, T, ◌⊎◌, ◌↔◌, List, [], ◌∷◌, ◌++◌, length, get_or, take, drop, sym, refl, ap, ◌∙◌, subst, inl, inr, append-nil, add-one, arith, drop-cons}
-use mathlib.Core.Path.{fun_ext}
-use Rattle.std.proofs.lemmas.Bool.{cases_eq, both_ways}
-use Rattle.places.specs.Bags.{Bag, single, ◌⊕◌, ◌⊖◌}
+use Rattle.std.proofs.Common.{◌≡◌, ℕ, zero, suc, ◌+◌, ◌<◌, ◌≤◌, Bool, true, T, ◌↔◌, List, [], ◌∷◌, ◌++◌, length, get_or, take, drop, sym, refl, ap, subst, inl, inr, append-nil, add-one, arith, drop-cons}
+use Rattle.std.proofs.lemmas.Bool.{cases_eq}
+use Rattle.places.specs.Bags.{Bag, single, ◌⊖◌}
 use Rattle.places.specs.Sets.{PlaceRelation}
 use Rattle.places.specs.Laws.{single_same, single_other, single_le}
 use Rattle.pairing.specs.Closure.{Closure, none, more}
-use Rattle.pairing.specs.Laws.{T_of, of_T, turned_closure, moved, partner, pick}
+use Rattle.pairing.specs.Laws.{turned_closure, moved, partner, pick}
 use Rattle.bisimulation.specs.Lists.{tokens_of, related_lists}
 use Rattle.bisimulation.specs.Laws.{tokens_append}
-use Rattle.bisimulation.specs.Spelled.{Removed, remove}
+use Rattle.bisimulation.specs.Spelled.{remove}
 use Rattle.bisimulation.specs.Related.{tests}
 use Rattle.verdict.specs.Search.{pairs_of, AllFrom, AllReach, Completes}
 use Rattle.verdict.specs.declared.pairs.Pairs.{Pairs}

@@ -1,9 +1,9 @@
 -- Short lists: pushing a place, and taking one out.
-use Rattle.std.proofs.Common.{◌≡◌, ℕ, zero, suc, ◌+◌, ◌-◌, ◌<◌, ◌≤◌, List, [], ◌∷◌, ◌++◌, length, get_or, take, set, sym, refl, ap, ◌∙◌, inl, inr, add-one, arith}
+use Rattle.std.proofs.Common.{◌≡◌, ℕ, zero, suc, ◌+◌, ◌-◌, ◌<◌, ◌≤◌, List, [], ◌∷◌, ◌++◌, length, get_or, take, set, ap, ◌∙◌, inl, inr, arith}
 use mathlib.Core.Path.{fun_ext}
 use Rattle.std.proofs.lemmas.List.{take_more, take-set-le}
 use Rattle.std.proofs.lemmas.Bool.{cases_eq}
-use Rattle.places.specs.Bags.{Bag, single, ◌⊖◌}
+use Rattle.places.specs.Bags.{single, ◌⊖◌}
 use Rattle.bisimulation.specs.Lists.{tokens_of}
 use Rattle.bisimulation.specs.Laws.{tokens_append}
 

@@ -1,11 +1,11 @@
 -- The highest place that is related to a place.
-use Rattle.std.proofs.Common.{◌≡◌, ℕ, ◌+◌, ◌-◌, ◌<◌, ◌≤◌, Bool, true, false, cond, ◌&&◌, T, ltb, ◌⊎◌, ◌↔◌, List, length, get_or, set, replicate, sym, refl, ap, ◌∙◌, subst, inl, inr, arith}
+use Rattle.std.proofs.Common.{◌≡◌, ℕ, ◌+◌, ◌-◌, ◌<◌, ◌≤◌, Bool, true, false, cond, ◌&&◌, T, ltb, ◌⊎◌, ◌↔◌, List, length, get_or, set, replicate, sym, refl, ◌∙◌, subst, inl, inr, arith}
 use Rattle.std.proofs.lemmas.List.{get_or-set_same, get_or-set_other, length-set}
 use Rattle.std.proofs.lemmas.Bool.{cases_eq, cases_lt, both_ways, and_right, ltb-true, lt-ltb}
 use Rattle.places.specs.Sets.{PlaceRelation}
 use Rattle.places.specs.Meanings.{relation_of}
 use Rattle.places.specs.Laws.{relation_placed}
-use Rattle.pairing.specs.Laws.{T_of, of_T}
+use Rattle.pairing.specs.Laws.{of_T}
 use Rattle.verdict.specs.Search.{inside, pairs_of, Top, Tops}
 use Rattle.verdict.specs.declared.pairs.Pairs.{Pairs}
 

@@ -1,14 +1,13 @@
 -- The verdict over both sides.
-use Rattle.std.proofs.Common.{◌≡◌, ℕ, ◌+◌, ◌<◌, ◌≤◌, Bool, true, false, ◌&&◌, ltb, ◌↔◌, List, ◌++◌, length, Some, None, Ok, Err, Option, Result, sym, refl, ap, ◌∙◌, subst, arith, length-append}
-use mathlib.Core.Path.{fun_ext}
+use Rattle.std.proofs.Common.{◌≡◌, ℕ, length, Ok, Err, Result, sym, refl, ap, ◌∙◌, subst, arith, length-append}
 use Rattle.std.proofs.lemmas.Bool.{false≢true}
 use Rattle.places.specs.Sets.{PlaceRelation, turned}
 use Rattle.places.specs.declared.Side.TheVariants.{Left, Right}
 use Rattle.nets.specs.Meaning.{Meaning, Limits}
-use Rattle.bisimulation.specs.Bisimulation.{between, Bisimulation}
-use Rattle.bisimulation.specs.Verdicts.{obligations_below, obligations, answer_to, ObligationAt, first_open, judged, Verdict, accepted, refused, verdict_of}
+use Rattle.bisimulation.specs.Bisimulation.{between}
+use Rattle.bisimulation.specs.Verdicts.{obligations_below, obligations, answer_to, first_open, judged, accepted, refused, verdict_of}
 use Rattle.bisimulation.specs.Theorems.{is_accepted, AcceptedExactly, RefusedBreaks}
-use Rattle.verdict.specs.Results.{obligation_at, unsound_at, verdict_as, Shown, Judges, JudgedBelow}
+use Rattle.verdict.specs.Results.{obligation_at, unsound_at, verdict_as, Judges, JudgedBelow}
 use Rattle.verdict.specs.Search.{inside}
 use Rattle.verdict.specs.declared.obligation.Obligation.{Obligation}
 use Rattle.verdict.specs.declared.obligation.VerdictRefusal.{VerdictRefusal}

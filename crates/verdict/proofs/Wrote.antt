@@ -1,10 +1,8 @@
 -- Entries that were written one after another.
-use Rattle.std.proofs.Common.{◌≡◌, ℕ, zero, suc, ◌+◌, ◌-◌, ◌<◌, ◌≤◌, true, List, [], ◌∷◌, ◌++◌, map, length, take, drop, set, Option, sym, refl, ap, ◌∙◌, subst, arith, length-append}
-use Rattle.std.proofs.lemmas.List.{length-map, length-set, map-append, take-set-le}
-use Rattle.places.specs.Sets.{PlaceRelation}
-use Rattle.nets.specs.Meaning.{Meaning}
-use Rattle.bisimulation.specs.Verdicts.{obliges, answers, lowest_below, answer_for, ObligationAt}
-use Rattle.verdict.specs.Results.{obligation_at, answered_at, at, Wrote}
+use Rattle.std.proofs.Common.{◌≡◌, ℕ, suc, ◌+◌, true, List, [], ◌∷◌, ◌++◌, length, take, set, Option, sym, refl, ap, ◌∙◌, subst, arith}
+use Rattle.std.proofs.lemmas.List.{length-set}
+use Rattle.bisimulation.specs.Verdicts.{obliges, answers, lowest_below, ObligationAt}
+use Rattle.verdict.specs.Results.{at, Wrote}
 use Rattle.verdict.specs.Entries.{entry}
 use Rattle.verdict.specs.Search.{mover_of, other_of, related_by}
 use Rattle.verdict.specs.PlaceLists.{places_in}

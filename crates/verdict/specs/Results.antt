@@ -1,5 +1,5 @@
 -- The results of the verdict: what they mean, and the numbers of the refusals. Assumes nothing.
-use Rattle.std.specs.Prelude.{◌≡◌, ℕ, ◌+◌, ◌<◌, ◌≤◌, true, ◌↔◌, List, [], ◌∷◌, ◌++◌, map, length, take, drop, is_ok, Some, None, Ok, Err, Option, Result, slice_set}
+use Rattle.std.specs.Prelude.{◌≡◌, ℕ, ◌+◌, ◌<◌, true, ◌↔◌, List, [], ◌∷◌, map, length, take, drop, is_ok, Some, None, Ok, Err, Option, Result, slice_set}
 use Rattle.places.specs.Bags.{Bag}
 use Rattle.places.specs.Sets.{PlaceRelation}
 use Rattle.places.specs.declared.Side.{Side}
@@ -7,7 +7,7 @@ use Rattle.places.specs.declared.Side.TheVariants.{Left}
 use Rattle.nets.specs.Meaning.{Meaning}
 use Rattle.bisimulation.specs.Bisimulation.{between, Bisimulation}
 use Rattle.bisimulation.specs.Lists.{tokens_of, list_of}
-use Rattle.bisimulation.specs.Verdicts.{answer_for, answer_on, obligations_below, obligations, answer_to, ObligationAt, first_open, Verdict, accepted, refused, verdict_of}
+use Rattle.bisimulation.specs.Verdicts.{answer_for, answer_on, obligations, answer_to, ObligationAt, first_open, Verdict, accepted, refused, verdict_of}
 use Rattle.bisimulation.specs.Theorems.{Breaks, GivenOn}
 use Rattle.verdict.specs.PlaceLists.{places_in}
 use Rattle.verdict.specs.declared.obligation.Obligation.{Obligation}

@@ -1,7 +1,7 @@
 -- What is known while the bags of an obligation are gone through. Assumes nothing.
-use Rattle.std.specs.Prelude.{◌≡◌, ℕ, ◌+◌, ◌<◌, ◌≤◌, Bool, true, false, cond, ◌&&◌, T, ltb, List, [], ◌∷◌, ◌++◌, map, length, take, Some, None, Option, nat_lt, slice_index, slice_index_or}
+use Rattle.std.specs.Prelude.{◌≡◌, ℕ, ◌+◌, ◌<◌, ◌≤◌, true, false, cond, ◌&&◌, T, ltb, List, [], ◌∷◌, ◌++◌, map, length, take, Some, None, Option, nat_lt, slice_index, slice_index_or}
 use Rattle.places.specs.Bags.{Bag}
-use Rattle.places.specs.Sets.{PlaceRelation, turned}
+use Rattle.places.specs.Sets.{PlaceRelation}
 use Rattle.places.specs.Meanings.{relation_of}
 use Rattle.pairing.specs.Closure.{Closure}
 use Rattle.nets.specs.Meaning.{Meaning}

@@ -1,4 +1,7 @@
 //! Whether one net may stand in for another under a relation of their places.
+
+#![tactic(auto)]
+
 ghost use Rattle.nets.specs.Tables.{table_meaning};
 ghost use Rattle.places.specs.Meanings.{bag_of, relation_of};
 ghost use Rattle.verdict.specs.Results.{Answers, Judges, ListsAnswers};

@@ -1,7 +1,6 @@
 -- The worked examples of verdicts, as one statement. Assumes nothing.
 use Rattle.std.specs.Prelude.{◌≡◌, List, [], ◌∷◌, ℕ}
 use Rattle.places.specs.Sets.{PlaceRelation}
-use Rattle.places.specs.declared.Side.{Side}
 use Rattle.places.specs.declared.Side.TheVariants.{Left}
 use Rattle.bisimulation.specs.Verdicts.{ObligationAt, accepted, refused, verdict_of}
 use Rattle.worked_examples.specs.Setting.{relating, p, q, u, v, z, K}

@@ -1,4 +1,4 @@
-use Rattle.std.proofs.Common.{◌&&◌, ltb, sym, ◌∙◌, subst, arith}
+use Rattle.std.proofs.Common.{◌&&◌, ltb, sym, ◌∙◌, arith}
 use Rattle.nets.specs.Firing.{pre_set}
 use Rattle.nets.specs.Tables.{table_meaning}
 use Rattle.pairing.specs.Laws.{some_from}

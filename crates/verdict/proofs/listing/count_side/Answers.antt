@@ -1,11 +1,6 @@
-use Rattle.std.proofs.Common.{◌≡◌, ◌+◌, ◌-◌, ◌^◌, ◌<◌, ◌≤◌, [], map, length, take, sym, refl, ap, ◌∙◌, subst, arith}
-use native.Mathlib.Nat.{sub-zero}
-use Rattle.std.proofs.lemmas.Bool.{lt-ltb}
+use Rattle.std.proofs.Common.{◌≡◌, length, refl, ap, ◌∙◌, arith}
 use Rattle.nets.specs.Tables.{table_meaning, table_limits}
-use Rattle.bisimulation.specs.Verdicts.{answer_for, bags_for, takes}
-use Rattle.verdict.specs.Results.{at, Wrote, with_answers}
-use Rattle.verdict.specs.Search.{pairs_of, bags_after, tested}
-use Rattle.verdict.specs.ShortLists.{listed}
+use Rattle.verdict.specs.Search.{pairs_of}
 use Rattle.verdict.proofs.Flows.{flow_short}
 use Rattle.verdict.proofs.Halves.{side_few}
 use Rattle.verdict.proofs.Lists.{count_more}
@@ -16,12 +11,12 @@ use Rattle.verdict.proofs.listing.count_side.Goals as goal
 pub loop-t-init : goal.loop-t-init
 loop-t-init c = (c.transitions-t-end.ensures, refl)
 
-pub count-transition-count-requires : goal.count-transition-count-requires
-count-transition-count-requires c =
+pub count_transition-count-requires : goal.count_transition-count-requires
+count_transition-count-requires c =
     let h = c.args.half.now in
     let n = table_meaning h.mover.now in
     record {
-      outlined = c.outline-of-outline.ensures;
+      outlined = c.outline_of-outline.ensures;
       topped = c.tops-tops.ensures;
       there = omega (arith, c.transitions-t-end.ensures, c.loop-t-test.true);
       room = omega (arith, c.loop-t.invariant.1, side_few h.side n (table_meaning h.other.now) (pairs_of h.pairs) c.loop-t.t (table_limits h.other.now).few_places (λ t. flow_short n Takes t (table_limits h.mover.now)), c.loop-t-test.true, c.transitions-t-end.ensures, (table_limits h.mover.now).few_transitions);
@@ -30,7 +25,7 @@ count-transition-count-requires c =
 pub loop-t-preserved : goal.loop-t-preserved
 loop-t-preserved c =
     let h = c.args.half.now in
-    (c.transitions-t-end.ensures, count_more h.side (table_meaning h.mover.now) (table_meaning h.other.now) (pairs_of h.pairs) c.loop-t.t c.loop-t.count c.count-transition-count.result c.loop-t.invariant.1 c.count-transition-count.ensures)
+    (c.transitions-t-end.ensures, count_more h.side (table_meaning h.mover.now) (table_meaning h.other.now) (pairs_of h.pairs) c.loop-t.t c.loop-t.count c.count_transition-count.result c.loop-t.invariant.1 c.count_transition-count.ensures)
 
 pub returns : goal.returns
 returns c =

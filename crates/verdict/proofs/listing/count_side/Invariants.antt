@@ -1,4 +1,4 @@
-use Rattle.std.proofs.Common.{◌≡◌, ◌*◌, ◌^◌, ◌≤◌, length}
+use Rattle.std.proofs.Common.{◌≡◌, length}
 use Rattle.nets.specs.Tables.{table_meaning}
 use Rattle.bisimulation.specs.Verdicts.{obligations_below}
 use Rattle.verdict.specs.Search.{pairs_of}

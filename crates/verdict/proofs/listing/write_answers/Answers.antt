@@ -1,4 +1,4 @@
-use Rattle.std.proofs.Common.{◌≡◌, sym, refl, ap, ◌∙◌, subst, arith}
+use Rattle.std.proofs.Common.{ap, ◌∙◌, arith}
 use Rattle.places.specs.Sets.{turned}
 use Rattle.places.specs.Meanings.{relation_of}
 use Rattle.nets.specs.Tables.{table_meaning}
@@ -13,7 +13,7 @@ returns-then-out-total c =
     let k = table_meaning c.args.right.now in
     let R = relation_of c.args.relation.now in
     let forth = pairs_between n k R c.places.result c.places-2.result c.places.ensures c.places-2.ensures in
-    too_few n k R (inside c.places.result c.places-2.result R) (pairs_of c.turned.result) forth (c.turned.ensures ∙ ap turned forth) _ c.args.out.now (omega (arith, c.count-side.ensures.value, c.count-side-2.ensures.value)) c.if-out-total.true
+    too_few n k R (inside c.places.result c.places-2.result R) (pairs_of c.turned.result) forth (c.turned.ensures ∙ ap turned forth) _ c.args.out.now (omega (arith, c.count_side.ensures.value, c.count_side-2.ensures.value)) c.if-out-total.true
 
 pub returns : goal.returns
 returns c =
@@ -21,4 +21,4 @@ returns c =
     let k = table_meaning c.args.right.now in
     let R = relation_of c.args.relation.now in
     let forth = pairs_between n k R c.places.result c.places-2.result c.places.ensures c.places-2.ensures in
-    both_listed n k R (inside c.places.result c.places-2.result R) (pairs_of c.turned.result) forth (c.turned.ensures ∙ ap turned forth) _ c.write-side-middle.result c.write-side.result c.args.out.now c.write-side-middle.new.out c.write-side.new.out (omega (arith, c.count-side.ensures.value, c.count-side-2.ensures.value)) c.if-out-total.false c.write-side-middle.ensures.next c.write-side-middle.ensures.written c.write-side.ensures.written
+    both_listed n k R (inside c.places.result c.places-2.result R) (pairs_of c.turned.result) forth (c.turned.ensures ∙ ap turned forth) _ c.write_side-middle.result c.write_side.result c.args.out.now c.write_side-middle.new.out c.write_side.new.out (omega (arith, c.count_side.ensures.value, c.count_side-2.ensures.value)) c.if-out-total.false c.write_side-middle.ensures.next c.write_side-middle.ensures.written c.write_side.ensures.written

@@ -1,13 +1,6 @@
-use Rattle.std.proofs.Common.{◌≡◌, ◌+◌, ◌-◌, ◌^◌, ◌<◌, ◌≤◌, [], map, length, take, sym, refl, ap, ◌∙◌, subst, arith}
-use native.Mathlib.Nat.{sub-zero}
-use Rattle.std.proofs.lemmas.Bool.{lt-ltb}
-use Rattle.nets.specs.Tables.{table_meaning, table_limits}
-use Rattle.bisimulation.specs.Verdicts.{answer_for, bags_for, takes}
-use Rattle.verdict.specs.Results.{at, Wrote, with_answers}
-use Rattle.verdict.specs.Search.{pairs_of, bags_after, tested}
-use Rattle.verdict.specs.ShortLists.{listed}
-use Rattle.bisimulation.specs.Verdicts.{obligations_below}
-use Rattle.verdict.specs.Results.{WroteBelow}
+use Rattle.std.proofs.Common.{◌≡◌, ◌<◌, subst, arith}
+use Rattle.nets.specs.Tables.{table_meaning}
+use Rattle.verdict.specs.Search.{pairs_of}
 use Rattle.verdict.proofs.Lists.{WrittenTo, written_none, written_more, written_long, still_room}
 use Rattle.verdict.proofs.listing.write_side.Goals as goal
 
@@ -16,13 +9,13 @@ loop-t-init c =
     let h = c.args.half.now in
     (c.transitions-t-end.ensures, written_none h.side (table_meaning h.mover.now) (table_meaning h.other.now) (pairs_of h.pairs) c.args.start c.args.out.now)
 
-pub write-transition-next-requires : goal.write-transition-next-requires
-write-transition-next-requires c =
+pub write_transition-next-requires : goal.write_transition-next-requires
+write_transition-next-requires c =
     let h = c.args.half.now in
     let n = table_meaning h.mover.now in
     let l : c.loop-t.t < n.transitions = omega (arith, c.transitions-t-end.ensures, c.loop-t-test.true) in
     record {
-      outlined = c.outline-of-outline.ensures;
+      outlined = c.outline_of-outline.ensures;
       topped = c.tops-tops.ensures;
       there = l;
       room = omega (arith, c.requires.room, c.loop-t.invariant.1.counted, still_room h.side n (table_meaning h.other.now) (pairs_of h.pairs) c.loop-t.t n.transitions l, written_long c.loop-t.invariant.1);
@@ -31,7 +24,7 @@ write-transition-next-requires c =
 pub loop-t-preserved : goal.loop-t-preserved
 loop-t-preserved c =
     let h = c.args.half.now in
-    (c.transitions-t-end.ensures, written_more h.side (table_meaning h.mover.now) (table_meaning h.other.now) (pairs_of h.pairs) c.args.start c.args.out.now c.loop-t.t c.loop-t.next c.loop-t.out c.write-transition-next.result c.write-transition-next.new.out c.loop-t.invariant.1 c.write-transition-next.ensures.next c.write-transition-next.ensures.written)
+    (c.transitions-t-end.ensures, written_more h.side (table_meaning h.mover.now) (table_meaning h.other.now) (pairs_of h.pairs) c.args.start c.args.out.now c.loop-t.t c.loop-t.next c.loop-t.out c.write_transition-next.result c.write_transition-next.new.out c.loop-t.invariant.1 c.write_transition-next.ensures.next c.write_transition-next.ensures.written)
 
 pub returns : goal.returns
 returns c =

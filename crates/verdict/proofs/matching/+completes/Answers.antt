@@ -1,4 +1,4 @@
-use Rattle.std.proofs.Common.{◌+◌, ◌<◌, true, false, T, length, get_or, drop, sym, refl, ap, ◌∙◌, subst, arith}
+use Rattle.std.proofs.Common.{◌+◌, T, get_or, drop, sym, refl, ◌∙◌, subst, arith}
 use Rattle.std.proofs.lemmas.Bool.{false≢true, both_ways}
 use Rattle.bisimulation.specs.Lists.{tokens_of}
 use Rattle.pairing.specs.Laws.{T_of, of_T}
@@ -11,7 +11,7 @@ use Rattle.verdict.proofs.matching.+completes.Goals.{else-relates-via-then-relat
 pub returns-then-k-chosen : goal.returns-then-k-chosen
 returns-then-k-chosen t c =
     let both = completes_none {R = pairs_of c.args.pairs.now} {lo = c.args.from} (listed c.args.tokens) c.args.chosen.now c.args.k c.if-k-chosen.true in
-    (λ e. both.0 (c.all-reach.ensures.0 e), λ d. c.all-reach.ensures.1 (both.1 d))
+    (λ e. both.0 (c.all_reach.ensures.0 e), λ d. c.all_reach.ensures.1 (both.1 d))
 
 pub returns-then-completes : goal.returns-then-completes
 returns-then-completes t c =

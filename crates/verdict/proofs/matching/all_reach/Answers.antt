@@ -1,4 +1,4 @@
-use Rattle.std.proofs.Common.{◌≤◌, T, sym, refl, ap, ◌∙◌, subst, arith}
+use Rattle.std.proofs.Common.{T, sym, refl, subst, arith}
 use Rattle.std.proofs.lemmas.Bool.{false≢true}
 use Rattle.verdict.specs.Search.{pairs_of}
 use Rattle.verdict.specs.ShortLists.{listed}

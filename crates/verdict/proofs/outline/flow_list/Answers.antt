@@ -1,4 +1,4 @@
-use Rattle.std.proofs.Common.{◌≤◌, length, sym, ap, ◌∙◌, subst, arith}
+use Rattle.std.proofs.Common.{◌≤◌, length, sym, ap, ◌∙◌, subst}
 use Rattle.nets.specs.Tables.{table_meaning, table_limits}
 use Rattle.bisimulation.specs.Lists.{list_of}
 use Rattle.verdict.specs.Search.{flow}
@@ -11,8 +11,8 @@ loop-p-init c =
     let m = flow (table_meaning c.args.net.now) c.args.role c.args.t in
     (c.places-p-end.ensures, subst (ListedTo m c.places-p-end.result 0) (sym c.new-list.ensures) (listed_none m c.places-p-end.result))
 
-pub pile-on-requires : goal.pile-on-requires
-pile-on-requires c =
+pub pile_on-requires : goal.pile_on-requires
+pile_on-requires c =
     let n = table_meaning c.args.net.now in
     let short = flow_short n c.args.role c.args.t (table_limits c.args.net.now) in
     still_short (flow n c.args.role c.args.t) c.places-p-end.result c.loop-p.p (listed c.loop-p.list) c.weight.result c.loop-p-test.true c.weight.ensures (subst (λ k. length (list_of k (flow n c.args.role c.args.t)) ≤ 4) (sym c.places-p-end.ensures) short) c.loop-p.invariant.1
@@ -20,7 +20,7 @@ pile-on-requires c =
 pub loop-p-preserved : goal.loop-p-preserved
 loop-p-preserved c = (
   c.places-p-end.ensures,
-  listed_more (flow (table_meaning c.args.net.now) c.args.role c.args.t) c.places-p-end.result c.loop-p.p (listed c.loop-p.list) (listed c.pile-on.new.list) c.weight.result c.loop-p-test.true c.weight.ensures c.pile-on.ensures c.loop-p.invariant.1,
+  listed_more (flow (table_meaning c.args.net.now) c.args.role c.args.t) c.places-p-end.result c.loop-p.p (listed c.loop-p.list) (listed c.pile_on.new.list) c.weight.result c.loop-p-test.true c.weight.ensures c.pile_on.ensures c.loop-p.invariant.1,
 )
 
 pub returns : goal.returns

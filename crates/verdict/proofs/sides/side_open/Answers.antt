@@ -1,11 +1,11 @@
-use Rattle.std.proofs.Common.{◌≡◌, ℕ, ◌≤◌, length, Ok, sym, refl, ap, ◌∙◌, subst, arith}
+use Rattle.std.proofs.Common.{◌≡◌, Ok, subst, arith}
 use Rattle.nets.specs.Tables.{table_meaning, table_limits}
-use Rattle.bisimulation.specs.Verdicts.{obligations_below, takes}
+use Rattle.bisimulation.specs.Verdicts.{obligations_below}
 use Rattle.verdict.specs.Results.{JudgedBelow}
 use Rattle.verdict.specs.Search.{pairs_of}
 use Rattle.verdict.specs.declared.outline.Role.TheVariants.{Takes}
 use Rattle.verdict.proofs.Flows.{flow_short}
-use Rattle.verdict.proofs.Halves.{SoFar, so_far_none, so_far_more, so_far_stops, side_few}
+use Rattle.verdict.proofs.Halves.{so_far_none, so_far_more, so_far_stops, side_few}
 use Rattle.verdict.proofs.sides.side_open.Goals as goal
 
 pub loop-t-init : goal.loop-t-init
@@ -13,11 +13,11 @@ loop-t-init c =
     let h = c.args.half.now in
     (c.transitions-t-end.ensures, so_far_none h.side (table_meaning h.mover.now) (table_meaning h.other.now) (pairs_of h.pairs) c.args.start)
 
-pub transition-open-requires : goal.transition-open-requires
-transition-open-requires c =
+pub transition_open-requires : goal.transition_open-requires
+transition_open-requires c =
     let h = c.args.half.now in
     record {
-      outlined = c.outline-of-outline.ensures;
+      outlined = c.outline_of-outline.ensures;
       topped = c.tops-tops.ensures;
       there = omega (arith, c.transitions-t-end.ensures, c.loop-t-test.true);
       room = omega (arith, c.requires.room, c.loop-t.invariant.1.few, c.loop-t.invariant.1.counted, c.loop-t-test.true, c.transitions-t-end.ensures, (table_limits h.mover.now).few_transitions);

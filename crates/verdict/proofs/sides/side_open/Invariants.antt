@@ -1,7 +1,5 @@
-use Rattle.std.proofs.Common.{◌≡◌, ◌+◌, ◌*◌, ◌^◌, ◌≤◌, length, Ok}
+use Rattle.std.proofs.Common.{◌≡◌}
 use Rattle.nets.specs.Tables.{table_meaning}
-use Rattle.bisimulation.specs.Verdicts.{obligations_below}
-use Rattle.verdict.specs.Results.{JudgedBelow}
 use Rattle.verdict.specs.Search.{pairs_of}
 use Rattle.verdict.proofs.Halves.{SoFar}
 use Rattle.verdict.proofs.sides.side_open.Given as goal

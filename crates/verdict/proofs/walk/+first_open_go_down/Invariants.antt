@@ -1,8 +1,8 @@
 use Rattle.std.proofs.Common.{◌+◌, ◌-◌, ◌*◌}
 use Rattle.verdict.proofs.walk.+first_open_go_down.Given as goal
 
-abbrev pub decreases-first-open : goal.decreases-first-open
-decreases-first-open l = 2 * ((l.job.now.places - l.from) + l.left)
+abbrev pub decreases-first_open : goal.decreases-first_open
+decreases-first_open l = 2 * ((l.job.now.places - l.from) + l.left)
 
-abbrev pub decreases-go-down : goal.decreases-go-down
-decreases-go-down l = 2 * ((l.job.now.places - l.from) + l.left) + 1
+abbrev pub decreases-go_down : goal.decreases-go_down
+decreases-go_down l = 2 * ((l.job.now.places - l.from) + l.left) + 1

@@ -8,4 +8,4 @@ use Rattle.verdict.proofs.writing.write_one.Goals as goal
 pub returns : goal.returns
 returns c =
     let j = c.args.job.now in
-    wrote_one j c.args.chosen.now c.args.n c.args.at c.of.result c.find-answer-answer.result c.args.out.now c.requires.known c.of.ensures (c.find-answer-answer.ensures ∙ ap (λ k. lowest_below (answers (mover_of j) (other_of j) (related_by j) j.t (take k c.args.chosen.now)) (other_of j).transitions) (sub-zero c.args.n))
+    wrote_one j c.args.chosen.now c.args.n c.args.at c.of.result c.find_answer-answer.result c.args.out.now c.requires.known c.of.ensures (c.find_answer-answer.ensures ∙ ap (λ k. lowest_below (answers (mover_of j) (other_of j) (related_by j) j.t (take k c.args.chosen.now)) (other_of j).transitions) (sub-zero c.args.n))
