@@ -2,7 +2,6 @@
 
 #![tactic(auto)]
 
-
 mod chart;
 mod heading;
 mod name_table;

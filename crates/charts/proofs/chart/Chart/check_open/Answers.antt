@@ -15,7 +15,7 @@ returns c =
     let names = names_of self.transitions in
     let places = length (places_of self.places) in
     let count = length (listed_transitions names self.labels rows) in
-    let some : is_some self.opened ≡ true = c.if-is-none.ensures in
+    let some : is_some self.opened ≡ true = c.if-is_none.ensures in
     let inside : c.len-t.result < length rows = omega (arith, c.len-t.ensures, self.room some, self.rows.whole) in
     let row : row_view c.at.result.now ≡ row_of rows (length names) = row_read rows c.len-t.result c.at.result.now inside c.at.ensures ∙ ap (row_of rows) c.len-t.ensures in
     c.check.ensures ∙

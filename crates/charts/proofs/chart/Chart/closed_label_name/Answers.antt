@@ -15,7 +15,7 @@ returns-then-t-len c =
     let count = length (names_of self.transitions) in
     let inside : t < count = omega (arith, c.len.ensures, c.if-t-len.true) in
     let long : length (take count self.labels) ≡ count = length-take-le count self.labels (omega (arith, names_few self.transitions, self.whole)) in
-    name_read c.from-number.result (get_or self.labels t 0) c.from-number.ensures (packed_name _ (self.labelled t inside)) ∙
+    name_read c.from_number.result (get_or self.labels t 0) c.from_number.ensures (packed_name _ (self.labelled t inside)) ∙
     ap Some (sym (get_or-take count self.labels t 0 inside)) ∙ sym (slice_get-get_or (take count self.labels) t 0 (omega (arith, long))) ∙
     ap (λ ns. slice_get ns t) (sym (labels_named self))
 

@@ -22,8 +22,8 @@ push-requires c =
     let self = c.args.self.now in
     (omega arith, (self.room (ap is_some c.in-Some.is), (omega arith, self.unused c.in-Some.heading c.in-Some.is)))
 
-pub invariant-of-self : goal.invariant-of-self
-invariant-of-self c =
+pub invariant_of-self : goal.invariant_of-self
+invariant_of-self c =
     let self = c.args.self.now in
     let rows = self.rows.items in
     let names = names_of self.transitions in
@@ -33,28 +33,17 @@ invariant-of-self c =
     let e = c.len-last.ensures in
     let more : length (names_of c.push.new.self) ≡ last + 1 = ap length c.push.ensures ∙ length_push names (number_of heading.name) ∙ ap (λ n. n + 1) (sym e) in
     let inside : last < length self.labels = omega (arith, e, self.room (ap is_some c.in-Some.is), self.whole) in
-    let fits = closing_fits places _ (row_of rows (length names)) (ap (λ (o : Option Heading). is_ok (closes_as places (length (listed_transitions names self.labels rows)) (option_map (headed (row_of rows (length names))) o))) (sym c.in-Some.is) ∙ c.requires) in (
-      length-set self.labels last c.number.result ∙ self.whole,
-      (
-        labels_more (λ n. is_packed n ≡ true) self.labels last _ c.number.result more inside (λ t l. self.labelled t (omega (arith, e))) (ap is_packed c.number.ensures ∙ name_is_packed heading.label),
-        (
-          labels_more (λ n. n < 2 ^ 64) self.labels last _ c.number.result more inside (λ t l. self.short t (omega (arith, e))) c.number.type-inv,
-          (
-            up_to (λ t. 1 ≤ size (row_of rows t).inputs) last _ more (λ t l. self.takes t (omega (arith, e))) (subst (λ t. 1 ≤ size (row_of rows t).inputs) (sym e) fits.1.0),
-            (
-              up_to (λ t. least_output ≤ size (row_of rows t).outputs) last _ more (λ t l. self.gives t (omega (arith, e))) (subst (λ t. least_output ≤ size (row_of rows t).outputs) (sym e) fits.1.1),
-              (
-                up_to (λ t. declared_only places (row_of rows t) ≡ true) last _ more (λ t l. self.inside t (omega (arith, e))) (subst (λ t. declared_only places (row_of rows t) ≡ true) (sym e) fits.0),
-                (
-                  (λ some. absurd (false≢true some)),
-                  ((λ h same. none_some same), tt),
-                ),
-              ),
-            ),
-          ),
-        ),
-      ),
-    )
+    let fits = closing_fits places _ (row_of rows (length names)) (ap (λ (o : Option Heading). is_ok (closes_as places (length (listed_transitions names self.labels rows)) (option_map (headed (row_of rows (length names))) o))) (sym c.in-Some.is) ∙ c.requires) in
+    record {
+      whole = length-set self.labels last c.number.result ∙ self.whole;
+      labelled = labels_more (λ n. is_packed n ≡ true) self.labels last _ c.number.result more inside (λ t l. self.labelled t (omega (arith, e))) (ap is_packed c.number.ensures ∙ name_is_packed heading.label);
+      short = labels_more (λ n. n < 2 ^ 64) self.labels last _ c.number.result more inside (λ t l. self.short t (omega (arith, e))) c.number.type_inv;
+      takes = up_to (λ t. 1 ≤ size (row_of rows t).inputs) last _ more (λ t l. self.takes t (omega (arith, e))) (subst (λ t. 1 ≤ size (row_of rows t).inputs) (sym e) fits.1.0);
+      gives = up_to (λ t. least_output ≤ size (row_of rows t).outputs) last _ more (λ t l. self.gives t (omega (arith, e))) (subst (λ t. least_output ≤ size (row_of rows t).outputs) (sym e) fits.1.1);
+      inside = up_to (λ t. declared_only places (row_of rows t) ≡ true) last _ more (λ t l. self.inside t (omega (arith, e))) (subst (λ t. declared_only places (row_of rows t) ≡ true) (sym e) fits.0);
+      room = (λ some. absurd (false≢true some));
+      unused = (λ h same. none_some same);
+    }
   where
     none_some : {h : Heading} {X : Type 0} → None ≡ Some h → X
     none_some e = absurd (false≢true (ap is_some e))

@@ -8,8 +8,8 @@ use Rattle.charts.specs.Tables.{row_of}
 use Rattle.charts.proofs.Charted.{row_read, rows_kept, lent, opened_value}
 use Rattle.charts.proofs.chart.Chart.lend_last.Goals as goal
 
-pub invariant-of-self-lent : goal.invariant-of-self-lent
-invariant-of-self-lent c w =
+pub invariant_of-self-lent : goal.invariant_of-self-lent
+invariant_of-self-lent c w =
     let self = c.args.self.now in
     let rows = self.rows.items in
     let last = c.len-last.result in
@@ -33,13 +33,16 @@ invariant-of-self-lent c w =
       ),
     )
 
-pub returns-then-is-some : goal.returns-then-is-some
-returns-then-is-some c =
+pub returns-then-is_some : goal.returns-then-is_some
+returns-then-is_some c =
     let self = c.args.self.now in
     let rows = self.rows.items in
     let last = c.len-last.result in
-    let inside : last < length rows = omega (arith, c.len-last.ensures, self.room (sym c.if-is-some.ensures), self.rows.whole) in (
+    let inside : last < length rows = omega (arith, c.len-last.ensures, self.room (sym c.if-is_some.ensures), self.rows.whole) in (
       (refl, (λ w e. lent (places_of self.places) (names_of self.transitions) self.labels rows last w self.opened c.len-last.ensures inside), refl),
-      opened_value self.opened (row_view c.at-mut.result.now) (row_of rows (length (names_of self.transitions))) (sym c.if-is-some.ensures)
-          (row_read rows last c.at-mut.result.now inside c.at-mut.ensures.value ∙ ap (row_of rows) c.len-last.ensures),
+      record {
+        follows = tt;
+        value = opened_value self.opened (row_view c.at_mut.result.now) (row_of rows (length (names_of self.transitions))) (sym c.if-is_some.ensures)
+            (row_read rows last c.at_mut.result.now inside c.at_mut.ensures.value ∙ ap (row_of rows) c.len-last.ensures);
+      },
     )

@@ -14,36 +14,25 @@ use Rattle.charts.specs.declared.row.ChartRow.{ChartRow}
 use Rattle.charts.proofs.Charted.{rows_kept, started}
 use Rattle.charts.proofs.chart.Chart.start.Goals as goal
 
-pub invariant-of-self : goal.invariant-of-self
-invariant-of-self c =
+pub invariant_of-self : goal.invariant_of-self
+invariant_of-self c =
     let self = c.args.self.now in
     let rows = self.rows.items in
     let last = c.len-last.result in
     let count = length (names_of self.transitions) in
     let e = c.len-last.ensures in
     let put : set self.rows.items c.len-last.result c.new.result ≡ c.put.new.self.items = sym c.put.ensures in
-    let new = c.new.result in (
-      self.whole,
-      (
-        self.labelled,
-        (
-          self.short,
-          (
-            subst (Takes count) put (λ t l. rows_kept (λ r. 1 ≤ size r.inputs) rows last new (λ i less. self.takes i (omega (arith, e))) t (omega (arith, e))),
-            (
-              subst (Gives count) put (λ t l. rows_kept (λ r. least_output ≤ size r.outputs) rows last new (λ i less. self.gives i (omega (arith, e))) t (omega (arith, e))),
-              (
-                subst (Inside (length (places_of self.places)) count) put (λ t l. rows_kept (λ r. declared_only (length (places_of self.places)) r ≡ true) rows last new (λ i less. self.inside i (omega (arith, e))) t (omega (arith, e))),
-                (
-                  (λ some. omega (arith, c.requires.room, transition_count self)),
-                  ((λ h same. subst (λ (x : Heading). has_name (number_of x.name) (names_of self.transitions) ≡ false) (same_heading same) (ap (has_name (number_of c.args.heading.name)) (sym (transitions_named self)) ∙ c.requires.new)), tt),
-                ),
-              ),
-            ),
-          ),
-        ),
-      ),
-    )
+    let new = c.new.result in
+    record {
+      whole = self.whole;
+      labelled = self.labelled;
+      short = self.short;
+      takes = subst (Takes count) put (λ t l. rows_kept (λ r. 1 ≤ size r.inputs) rows last new (λ i less. self.takes i (omega (arith, e))) t (omega (arith, e)));
+      gives = subst (Gives count) put (λ t l. rows_kept (λ r. least_output ≤ size r.outputs) rows last new (λ i less. self.gives i (omega (arith, e))) t (omega (arith, e)));
+      inside = subst (Inside (length (places_of self.places)) count) put (λ t l. rows_kept (λ r. declared_only (length (places_of self.places)) r ≡ true) rows last new (λ i less. self.inside i (omega (arith, e))) t (omega (arith, e)));
+      room = (λ some. omega (arith, c.requires.room, transition_count self));
+      unused = (λ h same. subst (λ (x : Heading). has_name (number_of x.name) (names_of self.transitions) ≡ false) (same_heading same) (ap (has_name (number_of c.args.heading.name)) (sym (transitions_named self)) ∙ c.requires.new));
+    }
   where
     same_heading : {a b : Heading} → Some a ≡ Some b → a ≡ b
     same_heading e = cc

@@ -13,7 +13,7 @@ returns-then-i-self g c =
     let inside : c.args.i < length (names_of self) = omega (arith, names_length self) in
     let here = names_at self c.args.i c.if-i-self.true in
     let packed : is_packed (get_or self.numbers c.args.i 0) ≡ true = ap is_packed (sym here) ∙ self.named c.args.i inside in
-    name_read c.from-number.result (get_or self.numbers c.args.i 0) c.from-number.ensures (packed_name _ packed) ∙
+    name_read c.from_number.result (get_or self.numbers c.args.i 0) c.from_number.ensures (packed_name _ packed) ∙
     ap Some (sym here) ∙ sym (slice_get-get_or (names_of self) c.args.i 0 inside)
 
 pub returns-else-i-self : goal.returns-else-i-self

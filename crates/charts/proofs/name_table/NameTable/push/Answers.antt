@@ -8,22 +8,19 @@ use Rattle.charts.specs.TableLaws.{names_length}
 use Rattle.charts.proofs.Found.{distinct_push, names_push}
 use Rattle.charts.proofs.name_table.NameTable.push.Goals as goal
 
-pub invariant-of-self : goal.invariant-of-self
-invariant-of-self g c =
+pub invariant_of-self : goal.invariant_of-self
+invariant_of-self g c =
     let self = c.args.self.now in
     let number = number_of c.args.name in
     let inside : self.count < length self.numbers = omega (arith, c.requires.room, names_length self, self.whole) in
     let after : take (self.count + 1) (set self.numbers self.count c.number.result) ≡ names_of self ++ number ∷ [] =
-    take_more_set self.numbers self.count c.number.result inside ∙ ap (λ n. names_of self ++ n ∷ []) c.number.ensures in (
-      length-set self.numbers self.count c.number.result ∙ self.whole,
-      (
-        omega (arith, c.requires.room, names_length self),
-        (
-          subst AllNames (sym after) (names_push (names_of self) number self.named (name_is_packed c.args.name)),
-          (ap distinct after ∙ distinct_push (names_of self) number self.apart c.requires.new, tt),
-        ),
-      ),
-    )
+    take_more_set self.numbers self.count c.number.result inside ∙ ap (λ n. names_of self ++ n ∷ []) c.number.ensures in
+    record {
+      whole = length-set self.numbers self.count c.number.result ∙ self.whole;
+      room = omega (arith, c.requires.room, names_length self);
+      named = subst AllNames (sym after) (names_push (names_of self) number self.named (name_is_packed c.args.name));
+      apart = ap distinct after ∙ distinct_push (names_of self) number self.apart c.requires.new;
+    }
 
 pub returns : goal.returns
 returns g c =

@@ -26,27 +26,24 @@ push-requires c = (
 pub bounds-self-place : goal.bounds-self-place
 bounds-self-place c = omega (arith, c.len-place.ensures, c.requires.room, place_count c.args.self.now)
 
-pub overflow-add-self : goal.overflow-add-self
-overflow-add-self c = omega (arith, c.requires.few, c.args.self.now.total, ap size (places_marked c.args.self.now))
+pub overflow_add-self : goal.overflow_add-self
+overflow_add-self c = omega (arith, c.requires.few, c.args.self.now.total, ap size (places_marked c.args.self.now))
 
-pub invariant-of-self : goal.invariant-of-self
-invariant-of-self c =
+pub invariant_of-self : goal.invariant_of-self
+invariant_of-self c =
     let self = c.args.self.now in
     let place = c.len-place.result in
     let inside : place < 16 = omega (arith, c.len-place.ensures, c.requires.room, place_count self) in
     let long : length (names_of c.push.new.self) ≡ place + 1 =
     ap length c.push.ensures ∙ length_push (names_of self.names) (number_of c.args.name) ∙ ap (λ n. n + 1) (sym c.len-place.ensures) in
     let none : get_or self.markings place 0 ≡ 0 = self.unmarked place (omega (arith, c.len-place.ensures)) in
-    let more = ap size (weight_set self.markings place c.args.marking (omega (arith, self.whole)) none) ∙ size_with (counted self.markings) place c.args.marking inside in (
-      length-set self.markings place c.args.marking ∙ self.whole,
-      (
-        (λ p l. get_or-set_other self.markings place p c.args.marking 0 (λ e. omega (arith, long)) ∙ self.unmarked p (omega (arith, long, c.len-place.ensures))),
-        (
-          omega (arith, more, self.total),
-          (omega (arith, c.requires.few, self.total, ap size (places_marked self)), tt),
-        ),
-      ),
-    )
+    let more = ap size (weight_set self.markings place c.args.marking (omega (arith, self.whole)) none) ∙ size_with (counted self.markings) place c.args.marking inside in
+    record {
+      whole = length-set self.markings place c.args.marking ∙ self.whole;
+      unmarked = λ p l. get_or-set_other self.markings place p c.args.marking 0 (λ e. omega (arith, long)) ∙ self.unmarked p (omega (arith, long, c.len-place.ensures));
+      total = omega (arith, more, self.total);
+      few = omega (arith, c.requires.few, self.total, ap size (places_marked self));
+    }
 
 pub returns : goal.returns
 returns c =

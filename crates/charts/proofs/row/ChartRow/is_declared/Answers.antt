@@ -12,10 +12,10 @@ pub loop-p-preserved : goal.loop-p-preserved
 loop-p-preserved c =
     let row = row_view c.args.self.now in
     empty_more c.args.places c.loop-p.p row ∙
-    and_from (empty_from c.args.places c.loop-p.p row) (ltb c.loop-p.p c.args.places || empty_at row c.loop-p.p) c.loop-p.invariant (sym c.is-declared-at.ensures ∙ c.if-not-is-declared-at.false)
+    and_from (empty_from c.args.places c.loop-p.p row) (ltb c.loop-p.p c.args.places || empty_at row c.loop-p.p) c.loop-p.invariant (sym c.is_declared_at.ensures ∙ c.if-not-is_declared_at.false)
 
-pub returns-then-not-is-declared-at : goal.returns-then-not-is-declared-at
-returns-then-not-is-declared-at c = sym (empty_not c.args.places 16 c.loop-p.p (row_view c.args.self.now) c.loop-p-test.true (sym c.is-declared-at.ensures ∙ c.if-not-is-declared-at.true))
+pub returns-then-not-is_declared_at : goal.returns-then-not-is_declared_at
+returns-then-not-is_declared_at c = sym (empty_not c.args.places 16 c.loop-p.p (row_view c.args.self.now) c.loop-p-test.true (sym c.is_declared_at.ensures ∙ c.if-not-is_declared_at.true))
 
 pub returns : goal.returns
 returns c =

@@ -8,8 +8,8 @@ use Rattle.charts.proofs.weights.Weights.total.Goals as goal
 pub loop-p-init : goal.loop-p-init
 loop-p-init c = sym (tokens_none everywhere (weights_of c.args.self.now))
 
-pub overflow-add-sum : goal.overflow-add-sum
-overflow-add-sum c =
+pub overflow_add-sum : goal.overflow_add-sum
+overflow_add-sum c =
     omega (arith, c.loop-p.invariant, c.args.self.now.few, tokens_more c.loop-p.p everywhere (weights_of c.args.self.now), tokens_front (c.loop-p.p + 1) 16 (weights_of c.args.self.now) (omega (arith, c.loop-p-test.true)))
 
 pub loop-p-preserved : goal.loop-p-preserved
