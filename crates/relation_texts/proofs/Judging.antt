@@ -1,5 +1,5 @@
 -- One line, after lines that have no fault: what the walk makes of it is what its faults say.
-use Rattle.std.proofs.Common.{◌≡◌, ℕ, ◌+◌, ◌-◌, ◌<◌, ◌≤◌, Bool, true, false, cond, ◌&&◌, eqb, ltb, leb, ◌⊎◌, List, [], ◌∷◌, ◌++◌, length, is_some, Some, None, Ok, Err, Option, sym, refl, ap, ◌∙◌, subst, inl, inr, arith, lit<}
+use Rattle.std.proofs.Common.{◌≡◌, ℕ, ◌+◌, ◌<◌, ◌≤◌, Bool, true, false, cond, ◌&&◌, eqb, ltb, leb, ◌⊎◌, List, [], ◌∷◌, ◌++◌, length, is_some, Some, None, Ok, Err, Option, sym, refl, ap, ◌∙◌, subst, inl, inr, arith, lit<}
 use Rattle.faults.specs.declared.causes.Flaw.{Flaw}
 use Rattle.faults.specs.declared.causes.LineFault.{LineFault}
 use Rattle.faults.specs.declared.causes.LineFault.TheVariants.{RelationForm, Number, HeaderAgain, HeaderMissing, PairAgain}

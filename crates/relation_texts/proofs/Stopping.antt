@@ -1,7 +1,5 @@
 -- A line fits no form exactly where it stops fitting.
-use Rattle.std.proofs.Common.{◌≡◌, ℕ, Bool, true, false, cond, eqb, ◌⊎◌, List, [], ◌∷◌, ◌++◌, get_or, Some, None, Ok, Err, codes, Option, sym, refl, ap, ◌∙◌, subst, inl, inr, arith, lit<}
-use Rattle.faults.specs.declared.causes.Flaw.{Flaw}
-use Rattle.faults.specs.declared.causes.LineFault.{LineFault}
+use Rattle.std.proofs.Common.{◌≡◌, ℕ, Bool, true, false, cond, eqb, ◌⊎◌, List, [], ◌∷◌, ◌++◌, get_or, Some, None, Ok, Err, codes, Option, sym, refl, ap, ◌∙◌, subst, inl, inr, arith}
 use Rattle.lines.specs.Words.{Words, stop, word}
 use Rattle.numerals.specs.Numerals.{numeral}
 use Rattle.relation_texts.specs.Forms.{OfLine, then, no_form, misfit, plain, counted, number_first, last, two_numbers, header_line, edge_line, letter, said}

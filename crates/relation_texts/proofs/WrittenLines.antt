@@ -1,8 +1,8 @@
 -- A line says something exactly when it is so written.
-use Rattle.std.proofs.Common.{◌≡◌, ℕ, Bool, true, false, cond, eqb, List, [], ◌∷◌, Some, None, Ok, Err, codes, Option, sym, refl, ap, ◌∙◌, subst, arith}
+use Rattle.std.proofs.Common.{◌≡◌, ℕ, Bool, true, false, cond, eqb, List, [], ◌∷◌, Some, None, Ok, Err, codes, Option, sym, refl, ap, subst, arith}
 use Rattle.lines.specs.Words.{Words, stop, word}
 use Rattle.numerals.specs.Numerals.{numeral}
-use Rattle.relation_texts.specs.Forms.{OfLine, then, misfit, plain, counted, number_first, last, two_numbers, header_line, edge_line, letter, said_by, said}
+use Rattle.relation_texts.specs.Forms.{OfLine, then, misfit, plain, counted, number_first, last, two_numbers, header_line, edge_line, letter, said}
 use Rattle.relation_texts.specs.Written.{Writes, LineWritten, blank, comment, header, edge, FormsExactly}
 use Rattle.relation_texts.specs.declared.forms.Count.{Count}
 use Rattle.relation_texts.specs.declared.forms.Said.{Said}

@@ -1,4 +1,7 @@
 //! Relation texts: the DIMACS edge layout, read into a relation of places or one exact fault.
+
+#![tactic(auto)]
+
 ghost use Rattle.std.specs.Prelude.{◌≡◌};
 ghost use Rattle.relation_texts.specs.Exactly.{FaultsExactly, ReadOrFault, RelationExactly};
 ghost use Rattle.relation_texts.specs.Misfits.{MisfitsExactly};

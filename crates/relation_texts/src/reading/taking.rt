@@ -1,5 +1,5 @@
 //! A line, taken after the lines before it.
-ghost use Rattle.std.specs.Prelude.{◌≡◌, ◌+◌, ◌≤◌, eqb, if◌then◌else◌, Ok, Err};
+ghost use Rattle.std.specs.Prelude.{◌≡◌, ◌+◌, ◌≤◌, ◌==◌, if◌then◌else◌, Ok, Err};
 ghost use Rattle.faults.specs.declared.causes.NumberFault.TheVariants.{Mismatch};
 ghost use Rattle.places.specs.Meanings.{relation_of};
 ghost use Rattle.relation_texts.specs.Forms.{says, then};
@@ -36,7 +36,7 @@ fn place(count: Count, before: u8, places: u8) -> Result<u8, Flaw<NumberFault>>
 
 /// The number of places of both nets.
 fn check_places(count: Count, left: u8, right: u8) -> Result<(), Flaw<NumberFault>>
-    ensures { result ≡ (if eqb count.value (left + right) then Ok tt else Err (record { cause = Mismatch; column = count.column })) }
+    ensures { result ≡ (if count.value == left + right then Ok tt else Err (record { cause = Mismatch; column = count.column })) }
 {
     if count.value == left as u32 + right as u32 {
         Ok(())
@@ -120,7 +120,7 @@ impl Reading {
         right: u8,
     ) -> Result<(), Flaw<LineFault>>
         requires { self.old.edges ≤ 4096 }
-        ensures value { left_by result self.new ≡ then (says line.now) (taken left right number (so_far self.old)) }
+        ensures value { left_by result self.new ≡ (then) (says line.now) (taken left right number (so_far self.old)) }
         ensures edges { self.new.edges ≤ self.old.edges + 1 }
     {
         match what_is_said(WordCursor::of(line))? {
