@@ -1,4 +1,6 @@
 //! Verdicts: two nets, a relation of their places, each obligation with its answer, and the verdict.
+ghost use Rattle.std.specs.Prelude.{◌≡◌, ◌<◌, length};
+
 use crate::cases::{CASES, Case, Expected, NamedNet, Owed};
 use crate::setup::{name, relation_with};
 use crate::tally::Tally;
@@ -102,18 +104,17 @@ fn print_result(
     }
 }
 
+/// How many places a net has; 0 where the number does not fit.
+fn place_count(net: &NamedNet) -> u8
+    ensures { length net.now.places.now < 256 → result ≡ length net.now.places.now }
+{
+    u8::try_from(net.places.len()).unwrap_or(0)
+}
+
 /// Lists the obligations, prints them, and says whether they are those worked out by hand.
 fn list_case(rt: &HostRuntime, case: &Case) -> io::Result<bool> {
-    let left = ArcList::new(
-        case.left.places.len() as u8,
-        case.left.labels,
-        case.left.arcs,
-    );
-    let right = ArcList::new(
-        case.right.places.len() as u8,
-        case.right.labels,
-        case.right.arcs,
-    );
+    let left = ArcList::new(place_count(case.left), case.left.labels, case.left.arcs);
+    let right = ArcList::new(place_count(case.right), case.right.labels, case.right.arcs);
     let mut out = [AnsweredObligation::blank(); 16];
     let Ok(count) = list_answers(&left, &right, &relation_with(case.relation), &mut out) else {
         return Ok(false);
@@ -130,16 +131,8 @@ fn list_case(rt: &HostRuntime, case: &Case) -> io::Result<bool> {
 fn run_case(rt: &HostRuntime, case: &Case) -> io::Result<bool> {
     print_case(rt, case)?;
     let listed = list_case(rt, case)?;
-    let left = ArcList::new(
-        case.left.places.len() as u8,
-        case.left.labels,
-        case.left.arcs,
-    );
-    let right = ArcList::new(
-        case.right.places.len() as u8,
-        case.right.labels,
-        case.right.arcs,
-    );
+    let left = ArcList::new(place_count(case.left), case.left.labels, case.left.arcs);
+    let right = ArcList::new(place_count(case.right), case.right.labels, case.right.arcs);
     let result = verdict(&left, &right, &relation_with(case.relation));
     print_result(rt, case, &result)?;
     let by_hand = case.by_hand;
