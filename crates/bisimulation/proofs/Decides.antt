@@ -58,7 +58,7 @@ own_enabled {n} {R} {t} o = record {
   free = λ p i. elim (cases_eq (pre_set n t p) 0) [ inl z ↦ z | inr z ↦ absurd (o.unblocked (p, (omega arith, i))) ];
 }
 
--- at its own pre_set, what matches it answers it
+-- at its own pre-set, what matches it answers it
 pub answer_from : {n k : Meaning} {R : PlaceRelation} {t u : ℕ} {bag : Bag} → Obligation n R t bag → Enabled k bag u → Matches n k R (pre_set n t) bag t u → Answer n k R t bag u
 answer_from o at g = record {
   there = at.there;

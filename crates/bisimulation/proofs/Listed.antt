@@ -39,7 +39,7 @@ beyond {l = l} b c q h = elim (cases_eq (l q) 0) [
   | inr z ↦ (let x = partner c q (omega arith) in absurd (omega (arith, b.rights_below x.0 q x.1.0)))
 ]
 
--- self_blocked
+-- self-blocked
 pub blocked_is : (n : Meaning) (t : ℕ) → self_blocked n t ≡ true → SelfBlocked n t
 blocked_is n t e =
     let w = some_is (λ p. ltb 0 (pre_set n t p) && n.inhibits t p) n.places e in

@@ -8,14 +8,14 @@ use Rattle.nets.specs.Meaning.{Meaning}
 use Rattle.nets.specs.Firing.{pre_set, post_set, SelfBlocked}
 use Rattle.bisimulation.specs.Bisimulation.{Alike}
 
--- an obligation: a transition of the mover that is not self_blocked, and a bag of places of the other net that is
--- related to its pre_set
+-- an obligation: a transition of the mover that is not self-blocked, and a bag of places of the other net that is
+-- related to its pre-set
 pub record Obligation (mover : Meaning) (R : PlaceRelation) (t : ℕ) (bag : Bag) : Type 0 where
   pub there : t < mover.transitions
   pub unblocked : SelfBlocked mover t → ⊥
   pub related : Closure R (pre_set mover t) bag
 
--- an answer to it: a transition of the other net whose pre_set is that bag, with the same label, a related post_set, and
+-- an answer to it: a transition of the other net whose pre-set is that bag, with the same label, a related post-set, and
 -- inhibitors alike
 pub record Answer (mover other : Meaning) (R : PlaceRelation) (t : ℕ) (bag : Bag) (u : ℕ) : Type 0 where
   pub there : u < other.transitions

@@ -36,7 +36,7 @@ is_accepted (refused o) = false
 abbrev pub AcceptedExactly : Type 0
 AcceptedExactly = (n k : Meaning) (R : PlaceRelation) → Limits n → Limits k → (is_accepted (verdict_of n k R) ≡ true) ↔ Bisimulation n k (between n k R)
 
--- an obligation that breaks the place bisimulation: laid out as its pre_set against its bag, the two markings are
+-- an obligation that breaks the place bisimulation: laid out as its pre-set against its bag, the two markings are
 -- related, its transition is enabled, and no transition of the other side that is enabled matches it
 pub record BreaksFromLeft (n k : Meaning) (R : PlaceRelation) (t : ℕ) (bag : Bag) : Type 0 where
   pub related : Closure R (pre_set n t) bag

@@ -15,14 +15,14 @@ post_set n t = n.output t
 abbrev pub SelfBlocked : Meaning → ℕ → Type 0
 SelfBlocked n t = (p : ℕ) × ((0 < pre_set n t p) × (n.inhibits t p ≡ true))
 
--- t is enabled at the marking m: there is such a transition, m holds its pre_set, and no place that inhibits it holds
+-- t is enabled at the marking m: there is such a transition, m holds its pre-set, and no place that inhibits it holds
 -- a token
 pub record Enabled (n : Meaning) (m : Bag) (t : ℕ) : Type 0 where
   pub there : t < n.transitions
   pub held : pre_set n t ⊆ m
   pub free : (p : ℕ) → n.inhibits t p ≡ true → m p ≡ 0
 
--- the marking after t has fired: m without the pre_set, plus the post_set
+-- the marking after t has fired: m without the pre-set, plus the post-set
 abbrev pub fired : Meaning → Bag → ℕ → Bag
 fired n m t = (m ⊖ pre_set n t) ⊕ post_set n t
 

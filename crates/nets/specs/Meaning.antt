@@ -3,8 +3,8 @@ use Rattle.std.specs.Prelude.{◌≡◌, ℕ, ◌^◌, ◌<◌, ◌≤◌, false
 use Rattle.places.specs.Bags.{Bag}
 use Rattle.places.specs.Sets.{Subset, size}
 
--- a net, by its answers: how many places and transitions it has, and for each transition its label, its pre_set and
--- post_set (the input and the output weight at each place) and the set of places that inhibit it
+-- a net, by its answers: how many places and transitions it has, and for each transition its label, its pre-set and
+-- post-set (the input and the output weight at each place) and the set of places that inhibit it
 pub record Meaning : Type 0 where
   pub places : ℕ
   pub transitions : ℕ

@@ -15,7 +15,7 @@ use Rattle.bisimulation.specs.Theorems.{GivenOn, AnswerGiven}
 use Rattle.verdict.specs.Results.{Answers}
 use Rattle.verdict.proofs.Flows.{list_length}
 
--- a bag of more than four tokens is related to no pre_set
+-- a bag of more than four tokens is related to no pre-set
 pub too_large : (mover other : Meaning) (R : PlaceRelation) (t : ℕ) (bag : Bag) → length (takes mover t) ≤ 4 → 4 < size bag → None ≡ answer_for mover other R t (list_of 16 bag)
 unfolding list_of tokens_below
 too_large mover other R t bag few large = sym (cond-false (obliges mover R t (list_of 16 bag)) (lowest_below (answers mover other R t (list_of 16 bag)) other.transitions) None (and_right (ltb t mover.transitions) (not (self_blocked mover t) && related_lists R (takes mover t) (list_of 16 bag)) (and_right (not (self_blocked mover t)) (related_lists R (takes mover t) (list_of 16 bag)) apart)))

@@ -47,7 +47,7 @@ judged_none side mover other R t size d before chosen o e h shows p f agrees =
     let none : 0 + size ≡ size = omega arith in
     first_mapped f (answer_for mover other R t) (at side t) (agrees t) (bags_for mover other R t) ∙ ap (λ bs. maybe (at side t) (first_open (answer_for mover other R t) bs)) (sym bags) ∙ ap (maybe (at side t)) p ∙ ap (λ n. Some (at side t (take n chosen))) none ∙ ap Some (sym shows)
 
--- a self_blocked transition has no obligations
+-- a self-blocked transition has no obligations
 none_obliged : {X : Type 0} (f : X → Bool) → ((x : X) → f x ≡ false) → (xs : List X) → keep f xs ≡ []
 none_obliged f h [] = refl
 none_obliged f h (x ∷ xs) = cond-false (f x) (x ∷ keep f xs) (keep f xs) (h x) ∙ none_obliged f h xs

@@ -79,7 +79,7 @@ related_by j = pairs_of j.pairs
 abbrev pub tested : Job → List ℕ → Option ℕ
 tested j ys = cond j.judging (answer_for (mover_of j) (other_of j) (related_by j) j.t ys) (Some 0)
 
--- a job is about a transition that is there and not self_blocked, and holds what was worked out beforehand
+-- a job is about a transition that is there and not self-blocked, and holds what was worked out beforehand
 pub record Ready (j : Job) : Type 0 where
   pub outlined : Outlined (other_of j) j.outline.now
   pub topped : Tops (related_by j) j.tops

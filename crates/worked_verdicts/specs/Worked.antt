@@ -23,7 +23,7 @@ pub record WorkedVerdicts : Type 0 where
   -- an inhibitor at a place that is not related does not matter, and matters at one that is
   pub c_d : verdict_of C D (relating ((0, 0) ∷ [])) ≡ accepted 2
   pub c_d_with : verdict_of C D (relating ((0, 0) ∷ (1, 1) ∷ [])) ≡ refused (left_at 0 (0 ∷ []))
-  -- a self_blocked transition makes no obligation
+  -- a self-blocked transition makes no obligation
   pub e_f : verdict_of E F (relating ((0, 0) ∷ [])) ≡ accepted 0
   -- two relations that are accepted, and their union that is not
   pub g_identity : verdict_of G G (relating ((0, 0) ∷ (1, 1) ∷ [])) ≡ accepted 2
