@@ -2,9 +2,12 @@
 """Brings the definitions and lemmas of this repository to the spelling of today's Rattle.
 
 Words, fields, constructors and lemmas are in snake case, types and facts in camel case. It is run once, at the top of
-the repository, after the kit's own script for older repositories. Functions of src/, strings, inputs and outputs keep
-their names, and so do the names that the kit makes for goals and steps. With --look it changes nothing, and prints the
-new names, and where one falls together with another.
+the repository, after the kit's own script for older repositories. It turns each of the repository's own names that has
+a dash, wherever it stands as a word of its own: in specs/, in proofs/, in the clauses of src/, and between backquotes
+in README.md and docs/. A step of a proof that is spelled like such a name is turned with it; that is today's spelling
+of the step too, since both are named after the same function. Functions of src/, strings, inputs and outputs keep their
+names, and names that the kit's script has turned already are not turned in the documents. With --look it changes
+nothing, and prints each old name beside its new one.
 """
 import glob
 import os
