@@ -119,7 +119,7 @@ fn answer_value<'x>(
 }
 
 /// The answer, with what it is in words.
-pub fn give_answer<'x>(
+pub(crate) fn give_answer<'x>(
     left: &'x Table,
     right: &'x Table,
     relation: &'x Relation,

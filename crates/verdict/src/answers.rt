@@ -19,7 +19,7 @@ fn blocks(net: &Table, t: u8, p: u8) -> bool
 }
 
 /// Whether an input place of the transition also inhibits it.
-pub fn is_blocked(net: &Table, t: u8) -> bool
+pub(crate) fn is_blocked(net: &Table, t: u8) -> bool
     ensures { result ≡ self_blocked (table_meaning net.now) t }
 {
     for p in 0..net.places() {
@@ -83,7 +83,7 @@ fn answers_with(job: &Job, ys: &[u8], u: u8) -> bool
 }
 
 /// The lowest transition of the other net that answers.
-pub fn find_answer(job: &Job, ys: &[u8]) -> Option<u8>
+pub(crate) fn find_answer(job: &Job, ys: &[u8]) -> Option<u8>
     requires { Ready job.now }
     ensures { result ≡ lowest_below (answers (mover_of job.now) (other_of job.now) (related_by job.now) job.now.t ys.now) (other_of job.now).transitions }
 {

@@ -55,7 +55,7 @@ fn both_sides<'x>(
 }
 
 /// The verdict, with what it says of place bisimulation.
-pub fn judge<'x>(
+pub(crate) fn judge<'x>(
     left: &'x Table,
     right: &'x Table,
     relation: &'x Relation,

@@ -116,7 +116,7 @@ fn write_side(half: &Half, start: usize, out: &mut [AnsweredObligation]) -> usiz
 }
 
 /// Each obligation in order with its answer or none.
-pub fn write_answers<'x>(
+pub(crate) fn write_answers<'x>(
     left: &'x Table,
     right: &'x Table,
     relation: &'x Relation,

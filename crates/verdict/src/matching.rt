@@ -30,7 +30,7 @@ fn all_reach(pairs: &Pairs, tops: &[u8; 16], tokens: &ShortList, from: u8) -> bo
 
 /// Whether the tokens can be paired with the places chosen, from the one at `k` on, and with later places, none of them
 /// below `from`.
-pub fn completes(
+pub(crate) fn completes(
     pairs: &Pairs,
     tops: &[u8; 16],
     tokens: ShortList,
@@ -55,7 +55,7 @@ pub fn completes(
 }
 
 /// Whether the bags of two lists are related.
-pub fn related(pairs: &Pairs, tops: &[u8; 16], xs: ShortList, ys: &[u8]) -> bool
+pub(crate) fn related(pairs: &Pairs, tops: &[u8; 16], xs: ShortList, ys: &[u8]) -> bool
     requires { Tops (pairs_of pairs.now) tops.now }
     ensures { result ≡ related_lists (pairs_of pairs.now) (listed xs) ys.now }
 {

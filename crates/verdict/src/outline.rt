@@ -33,7 +33,7 @@ fn weight(net: &Table, role: Role, t: u8, p: u8) -> u8
 }
 
 /// A place more, `times` times.
-pub fn pile_on(list: &mut ShortList, place: u8, times: u8)
+pub(crate) fn pile_on(list: &mut ShortList, place: u8, times: u8)
     requires { length (listed list.old) + times ≤ 4 }
     ensures { (zs : List ℕ) → listed list.new ++ zs ≡ listed list.old ++ pile times place zs }
 {
@@ -43,7 +43,7 @@ pub fn pile_on(list: &mut ShortList, place: u8, times: u8)
 }
 
 /// What a transition takes or gives, as an ascending list.
-pub fn flow_list(net: &Table, role: Role, t: u8) -> ShortList
+pub(crate) fn flow_list(net: &Table, role: Role, t: u8) -> ShortList
     ensures { listed result ≡ flow_list (table_meaning net.now) role t }
 {
     let mut list = ShortList::new();
@@ -54,7 +54,7 @@ pub fn flow_list(net: &Table, role: Role, t: u8) -> ShortList
 }
 
 /// The lists of all transitions.
-pub fn outline_of(net: &Table) -> Outline
+pub(crate) fn outline_of(net: &Table) -> Outline
     ensures { Outlined (table_meaning net.now) result }
 {
     let mut takes = [ShortList::new(); 32];

@@ -17,7 +17,7 @@ pub struct Pairs<'a> {
 
 impl<'a> Pairs<'a> {
     /// The same pairs from the other side.
-    pub fn turned(&self) -> Pairs<'a>
+    pub(crate) fn turned(&self) -> Pairs<'a>
         ensures { pairs_of result ≡ turned (pairs_of self.now) }
     {
         Pairs {
@@ -29,7 +29,7 @@ impl<'a> Pairs<'a> {
     }
 
     /// Whether the mover's place `p` and the other net's place `q` are related.
-    pub fn relates(&self, p: u8, q: u8) -> bool
+    pub(crate) fn relates(&self, p: u8, q: u8) -> bool
         ensures { result ≡ pairs_of self.now p q }
     {
         let (l, r) = if self.is_turned { (q, p) } else { (p, q) };
@@ -51,7 +51,7 @@ fn top(pairs: &Pairs, p: u8) -> u8
 }
 
 /// The same for all places.
-pub fn tops(pairs: &Pairs) -> [u8; 16]
+pub(crate) fn tops(pairs: &Pairs) -> [u8; 16]
     ensures { Tops (pairs_of pairs.now) result }
 {
     let mut tops = [0u8; 16];

@@ -67,7 +67,7 @@ fn transition_open(
 }
 
 /// Goes through the obligations of one side.
-pub fn side_open(half: &Half, start: u32) -> Result<u32, Obligation>
+pub(crate) fn side_open(half: &Half, start: u32) -> Result<u32, Obligation>
     requires room { start + 33 * 2 ^ 20 < 2 ^ 32 }
     ensures judged { JudgedBelow half.now.side (table_meaning half.now.mover.now) (table_meaning half.now.other.now) (pairs_of half.now.pairs) start (obligations_below half.now.side (table_meaning half.now.mover.now) (table_meaning half.now.other.now) (pairs_of half.now.pairs) (table_meaning half.now.mover.now).transitions) result }
     ensures few { length (obligations_below half.now.side (table_meaning half.now.mover.now) (table_meaning half.now.other.now) (pairs_of half.now.pairs) (table_meaning half.now.mover.now).transitions) ≤ 32 * 2 ^ 20 }

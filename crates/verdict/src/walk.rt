@@ -53,7 +53,7 @@ fn go_down(
 /// `from`. Gives how many there are, added to `count`, where all have answers; or none, and the first that has no
 /// answer is chosen.
 #[cycle(first_open_go_down)]
-pub fn first_open(
+pub(crate) fn first_open(
     job: &Job,
     chosen: &mut [u8; 4],
     n: usize,

@@ -58,7 +58,7 @@ fn write_down(
 /// Writes the bags that begin with the first `n` places chosen and go on with `left` places, none of them below `from`,
 /// from the number `at` on, and gives the number behind the last.
 #[cycle(write_down_write_from)]
-pub fn write_from(
+pub(crate) fn write_from(
     job: &Job,
     chosen: &mut [u8; 4],
     n: usize,
