@@ -4,7 +4,6 @@
 
 mod exact;
 mod parts;
-mod room;
 mod sequence;
 
 pub use exact::equality_is_exact;
