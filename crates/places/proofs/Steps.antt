@@ -1,11 +1,14 @@
 -- The steps of bags, sets and relations on tables.
-use Rattle.std.proofs.Common.{◌≡◌, ℕ, suc, ◌+◌, ◌-◌, ◌<◌, ◌≤◌, Bool, false, cond, eqb, ◌⊎◌, List, [], length, get_or, set, replicate, sym, refl, ap, ◌∙◌, subst, inl, inr, arith}
+use Rattle.std.specs.List.{sum_by}
+use Rattle.std.proofs.Common.{◌≡◌, ℕ, zero, suc, ◌+◌, ◌-◌, ◌<◌, ◌≤◌, Bool, false, cond, eqb, ◌⊎◌, List, [], length, get_or, take, set, replicate, sym, refl, ap, ◌∙◌, subst, inl, inr, add-one, arith}
 use mathlib.Core.Path.{fun_ext}
-use Rattle.std.proofs.lemmas.List.{get_or-set_same, get_or-set_other, get_or-replicate, get_or_past, length-replicate}
+use Rattle.std.proofs.lemmas.List.{get_or-set_same, get_or-set_other, get_or-replicate, get_or_past, length-replicate, take_all}
 use Rattle.std.proofs.lemmas.Bool.{cases_eq, cases_lt, eq-eqb, ne_eqb}
 use Rattle.places.specs.Bags.{Bag, empty, single, ◌⊕◌, ◌⊖◌}
-use Rattle.places.specs.Sets.{unrelated}
+use Rattle.places.specs.Sets.{everywhere, size, tokens_below, unrelated}
 use Rattle.places.specs.Tables.{counted, rowed, Square}
+use Rattle.places.specs.Laws.{tokens_none, tokens_more}
+use Rattle.std.proofs.lemmas.List.Sums.{sum_by_more}
 
 -- an entry of a table of counts after a write at i
 at_set : (l : List ℕ) (i k v : ℕ) → i < length l → (Q : ℕ → ℕ → Type 0) → (i ≡ k → Q v (suc 0)) → ((i ≡ k → ⊥) → Q (get_or l k 0) 0) → Q (get_or (set l i v) k 0) (cond (eqb i k) 1 0)
@@ -57,3 +60,17 @@ past_pair rows p q s (inr l) = elim (cases_lt p 16) [
 -- a place with a token is in the table
 pub in_table : (l : List ℕ) (i : ℕ) → (get_or l i 0 ≡ 0 → ⊥) → i < length l
 in_table l i some = elim (cases_lt i (length l)) [ inl h ↦ h | inr h ↦ absurd (some (get_or_past l i 0 h)) ]
+
+-- the tokens on the first places of a table are the sum of its first entries
+tokens_sum_by : (l : List ℕ) (k : ℕ) → k ≤ length l → tokens_below k everywhere (counted l) ≡ sum_by (λ x. x) (take k l)
+tokens_sum_by l zero h = tokens_none everywhere (counted l)
+tokens_sum_by l (suc k) h =
+    ap (λ n. tokens_below n everywhere (counted l)) (sym (add-one k)) ∙
+    tokens_more k everywhere (counted l) ∙
+    ap (λ n. n + get_or l k 0) (tokens_sum_by l k (omega arith)) ∙
+    sym (sum_by_more (λ x. x) l k 0 (omega arith)) ∙
+    ap (λ n. sum_by (λ x. x) (take n l)) (add-one k)
+
+-- and those on all places the sum of all
+pub size_sum_by : (l : List ℕ) → length l ≡ 16 → sum_by (λ x. x) l ≡ size (counted l)
+size_sum_by l e = sym (tokens_sum_by l 16 (omega (arith, e)) ∙ ap (sum_by (λ x. x)) (take_all 16 l (omega (arith, e))))

@@ -3,4 +3,5 @@ pub mod Sets
 pub mod Tables
 pub mod Meanings
 pub mod Refusals
+pub mod Lists
 pub mod Laws

@@ -5,6 +5,7 @@
 ghost use Rattle.std.specs.Prelude.{◌≡◌};
 ghost use Rattle.places.specs.Refusals.{lay_number};
 
+mod lists;
 mod place_bag;
 mod place_set;
 mod relation;
@@ -15,14 +16,14 @@ pub use place_set::PlaceSet;
 pub use relation::Relation;
 
 /// Which of the two nets.
-#[derive(Clone, Copy, PartialEq, Eq)]
+#[derive(Clone, Copy, Debug, PartialEq, Eq)]
 pub enum Side {
     Left,
     Right,
 }
 
 /// Why a token is not laid.
-#[derive(Clone, Copy)]
+#[derive(Clone, Copy, Debug, PartialEq, Eq)]
 pub enum LayRefusal {
     /// 23: there is no such place.
     NoSuchPlace,

@@ -1,5 +1,5 @@
 /// A set of places.
-#[derive(Clone, Copy)]
+#[derive(Clone, Copy, Debug, PartialEq, Eq)]
 pub struct PlaceSet {
     flags: [bool; 16],
 }

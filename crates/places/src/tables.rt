@@ -17,18 +17,14 @@ pub(crate) fn no_counts() -> [u8; 16]
 pub(crate) fn entry(counts: &[u8; 16], p: u8) -> u8
     ensures { result ≡ counted counts.now p }
 {
-    if p < 16 { counts[p as usize] } else { 0 }
+    counts.get(p as usize).copied().unwrap_or(0)
 }
 
 /// The tokens on all places.
 pub(crate) fn total(counts: &[u8; 16]) -> usize
     ensures { result ≡ size (counted counts.now) }
 {
-    let mut sum: usize = 0;
-    for p in 0..16usize {
-        sum += counts[p] as usize;
-    }
-    sum
+    counts.iter().map(|c| *c as usize).sum()
 }
 
 /// One token more on a place.
@@ -66,7 +62,7 @@ pub(crate) fn no_flags() -> [bool; 16]
 pub(crate) fn flag(flags: &[bool; 16], p: u8) -> bool
     ensures { result ≡ flagged flags.now p }
 {
-    if p < 16 { flags[p as usize] } else { false }
+    flags.get(p as usize).copied().unwrap_or(false)
 }
 
 /// Marks a place, if there is such a place.

@@ -1,11 +1,11 @@
-use Rattle.std.proofs.Common.{sym, arith, rules}
-use Rattle.places.specs.Sets.{everywhere}
-use Rattle.places.specs.Tables.{counted}
-use Rattle.places.specs.Laws.{tokens_none, tokens_more}
+use Rattle.std.specs.List.{sum_by}
+use Rattle.std.proofs.Common.{◌≡◌, ◌∙◌, rules}
+use Rattle.std.proofs.iter.runs.Sources.{sums}
+use Rattle.places.proofs.Steps.{size_sum_by}
 use Rattle.places.proofs.tables.total.Goals as goal
 
-pub loop-p-init : goal.loop-p-init
-loop-p-init c = (sym (tokens_none everywhere (counted c.args.counts.now)), omega arith)
+pub sum-requires-clause-fits : goal.sum-requires-clause-fits
+sum-requires-clause-fits c = search (rules, sums)
 
-pub loop-p-preserved : goal.loop-p-preserved
-loop-p-preserved c = (omega (arith, tokens_more c.loop-p.p everywhere (counted c.args.counts.now), c.loop-p.invariant.0), search rules)
+pub returns : goal.returns
+returns c = let e : c.sum.result ≡ sum_by (λ x. x) c.args.counts.now = search rules in e ∙ size_sum_by c.args.counts.now c.told-counts
