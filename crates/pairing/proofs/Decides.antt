@@ -49,11 +49,11 @@ apart : {R : PlaceRelation} {m n : Bag} (side : Side) (S : Subset) → Placed m 
 apart {R} {m} {n} Left S zm zn o c = (outnumbered_apart R m n S zm zn).0 o c
 apart {R} {m} {n} Right S zm zn o c = (outnumbered_apart R m n S zm zn).1 o c
 
-decided : (R : PlaceRelation) (m n : Bag) (r : Result (Sequence (ℕ × ℕ)) PairingRefusal) → Placed m → Placed n → Answers R m n r → Decided R m n r
+decided : (R : PlaceRelation) (m n : Bag) (r : Result (Sequence (ℕ × ℕ) 64) PairingRefusal) → Placed m → Placed n → Answers R m n r → Decided R m n r
 decided R m n (Ok xs) zm zn a = record { says = a; exact = (λ _. (paired_exactly R m n).1 (items xs, a.pairing), λ _. refl) }
 decided R m n (Err e) zm zn a = record { says = a; exact = (λ h. absurd (false≢true h), λ c. absurd (apart (shown_with e).0 (set_of (shown_with e).1) zm zn a.outnumbers c)) }
 
-pub found : {R : PlaceRelation} {m n : Bag} (xs : Sequence (ℕ × ℕ)) → Placed m → Placed n → Pairing R m n (items xs) → Decided R m n (Ok xs)
+pub found : {R : PlaceRelation} {m n : Bag} (xs : Sequence (ℕ × ℕ) 64) → Placed m → Placed n → Pairing R m n (items xs) → Decided R m n (Ok xs)
 found {R} {m} {n} xs zm zn p = decided R m n (Ok xs) zm zn (record { pairing = p })
 
 sides : Left ≡ Right → ⊥

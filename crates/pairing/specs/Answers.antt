@@ -36,11 +36,11 @@ pub record Shows (R : PlaceRelation) (m n : Bag) (side : Side) (S : Subset) : Ty
   pub all_marked : (size m ≢ size n) → (p : ℕ) → S p ≡ nat_lt 0 (on_side side m n p)
 
 -- what the answer of the search says
-abbrev pub Answers : PlaceRelation → Bag → Bag → Result (Sequence (ℕ × ℕ)) PairingRefusal → Type 0
+abbrev pub Answers : PlaceRelation → Bag → Bag → Result (Sequence (ℕ × ℕ) 64) PairingRefusal → Type 0
 Answers R m n (Ok pairs) = Found R m n (items pairs)
 Answers R m n (Err refusal) = Shows R m n (shown_with refusal).0 (set_of (shown_with refusal).1)
 
 -- and a pairing comes back exactly when the closure relates the two bags
-pub record Decided (R : PlaceRelation) (m n : Bag) (r : Result (Sequence (ℕ × ℕ)) PairingRefusal) : Type 0 where
+pub record Decided (R : PlaceRelation) (m n : Bag) (r : Result (Sequence (ℕ × ℕ) 64) PairingRefusal) : Type 0 where
   pub says : Answers R m n r
   pub exact : (is_ok r ≡ true) ↔ Closure R m n

@@ -16,7 +16,7 @@ use search::{decide_equal, larger_left, larger_right};
 mod search;
 
 /// Why two bags have no pairing.
-#[derive(Clone, Copy)]
+#[derive(Clone, Copy, Debug, PartialEq, Eq)]
 pub enum PairingRefusal {
     /// 33: the tokens of the left or the right bag on the places of a set outnumber all tokens of the other bag on
     /// the places related to it. With it come the side and the set.
@@ -49,7 +49,7 @@ pub fn find_pairing(
     relation: &Relation,
     left: &PlaceBag,
     right: &PlaceBag,
-) -> Result<Sequence<(u8, u8)>, PairingRefusal>
+) -> Result<Sequence<(u8, u8), 64>, PairingRefusal>
     ensures { Decided (relation_of relation.now) (bag_of left.now) (bag_of right.now) result }
 {
     let lefts = left.size();

@@ -17,16 +17,13 @@ use places::{PlaceBag, PlaceSet, Relation, Side};
 fn holder(relation: &Relation, pairs: &[(u8, u8)], q: u8, r: u8) -> Option<usize>
     ensures { MatchOption result (NoHolder (relation_of relation.now) pairs.now q r) (λ j. Holder (relation_of relation.now) pairs.now q r j) }
 {
-    for j in 0..pairs.len() {
-        if pairs[j].1 == q && relation.contains(pairs[j].0, r) {
-            return Some(j);
-        }
-    }
-    None
+    pairs
+        .iter()
+        .position(|pair| pair.1 == q && relation.contains(pair.0, r))
 }
 
 /// Lets the pair at the number `j` end at `r`.
-fn move_end(pairs: &mut Sequence<(u8, u8)>, j: usize, r: u8)
+fn move_end(pairs: &mut Sequence<(u8, u8), 64>, j: usize, r: u8)
     requires { j < length (items pairs.old) }
     ensures { items pairs.new ≡ slice_set (items pairs.old) j (left_end (items pairs.old) j, r) }
 {
@@ -45,7 +42,7 @@ fn exchange(free: &mut PlaceBag, q: u8, r: u8)
 }
 
 /// Moves the pair at the number `j` from `q` to `r`, which has a free token.
-fn shift(pairs: &mut Sequence<(u8, u8)>, free: &mut PlaceBag, j: usize, q: u8, r: u8)
+fn shift(pairs: &mut Sequence<(u8, u8), 64>, free: &mut PlaceBag, j: usize, q: u8, r: u8)
     requires there { j < length (items pairs.old) }
     requires low { (q < 16) × (r < 16) }
     requires some { 0 < bag_of free.old r }
@@ -60,7 +57,7 @@ fn shift(pairs: &mut Sequence<(u8, u8)>, free: &mut PlaceBag, j: usize, q: u8, r
 #[cycle(open_place_reopen)]
 fn open_place(
     relation: &Relation,
-    pairs: &mut Sequence<(u8, u8)>,
+    pairs: &mut Sequence<(u8, u8), 64>,
     free: &mut PlaceBag,
     seen: &mut PlaceSet,
     q: u8,
@@ -81,7 +78,7 @@ fn open_place(
 #[cycle(open_place_reopen)]
 fn reopen(
     relation: &Relation,
-    pairs: &mut Sequence<(u8, u8)>,
+    pairs: &mut Sequence<(u8, u8), 64>,
     free: &mut PlaceBag,
     seen: &mut PlaceSet,
     q: u8,
@@ -107,7 +104,7 @@ fn reopen(
 /// Makes a token free on some right place that is related to `p`; or else gives the places seen on the way.
 fn place(
     relation: &Relation,
-    pairs: &mut Sequence<(u8, u8)>,
+    pairs: &mut Sequence<(u8, u8), 64>,
     free: &mut PlaceBag,
     p: u8,
 ) -> Result<u8, PlaceSet>
@@ -126,7 +123,7 @@ fn place(
 }
 
 /// Adds a pair at the end.
-fn append(pairs: &mut Sequence<(u8, u8)>, pair: (u8, u8))
+fn append(pairs: &mut Sequence<(u8, u8), 64>, pair: (u8, u8))
     requires { length (items pairs.old) < 64 }
     ensures { items pairs.new ≡ items pairs.old ++ pair ∷ [] }
 {
@@ -136,7 +133,7 @@ fn append(pairs: &mut Sequence<(u8, u8)>, pair: (u8, u8))
 /// Pairs one more token, of the left place `p`.
 fn place_next(
     relation: &Relation,
-    pairs: &mut Sequence<(u8, u8)>,
+    pairs: &mut Sequence<(u8, u8), 64>,
     free: &mut PlaceBag,
     p: u8,
 ) -> Result<(), PlaceSet>
@@ -145,14 +142,10 @@ fn place_next(
     requires held { Held (relation_of relation.now) (items pairs.old) }
     ensures { MatchResult result (λ _. Added (relation_of relation.now) (items pairs.old) (bag_of free.old) p (items pairs.new) (bag_of free.new)) (λ seen. Blocked (relation_of relation.now) (items pairs.old) (bag_of free.old) p 16 (items pairs.new) (bag_of free.new) (set_of seen)) }
 {
-    match place(relation, pairs, free, p) {
-        Ok(q) => {
-            append(pairs, (p, q));
-            let _ = free.take(q);
-            Ok(())
-        }
-        Err(seen) => Err(seen),
-    }
+    let q = place(relation, pairs, free, p)?;
+    append(pairs, (p, q));
+    let _ = free.take(q);
+    Ok(())
 }
 
 /// The left places that a search from `p` reached: `p`, and the left ends of the pairs that end at seen places.
@@ -163,37 +156,33 @@ fn reached(pairs: &[(u8, u8)], seen: &PlaceSet, p: u8) -> PlaceSet
 {
     let mut places = PlaceSet::new();
     places.insert(p);
-    for k in 0..pairs.len() {
-        if seen.contains(pairs[k].1) {
-            places.insert(pairs[k].0);
+    for (left, right) in pairs {
+        if seen.contains(*right) {
+            places.insert(*left);
         }
     }
     places
 }
 
-/// Pairs two bags of one size, or else gives a set of left places that outnumbers the places related to it.
-fn pair_equal(
+/// Pairs two bags of one size, or else shows a set of left places that outnumbers the places related to it.
+pub(crate) fn decide_equal(
     relation: &Relation,
     left: &PlaceBag,
     right: &PlaceBag,
-) -> Result<Sequence<(u8, u8)>, PlaceSet>
+) -> Result<Sequence<(u8, u8), 64>, PairingRefusal>
     requires { size (bag_of left.now) ≡ size (bag_of right.now) }
-    ensures { MatchResult result (λ pairs. Pairing (relation_of relation.now) (bag_of left.now) (bag_of right.now) (items pairs)) (λ places. Fails (relation_of relation.now) (bag_of left.now) (bag_of right.now) (set_of places)) }
+    ensures { Decided (relation_of relation.now) (bag_of left.now) (bag_of right.now) result }
 {
     let mut pairs = Sequence::new();
     let mut rest = *left;
     let mut free = *right;
-    let mut p: u8 = 0;
-    while p < 16 {
-        if rest.count(p) == 0 {
-            p += 1;
-        } else {
-            match place_next(relation, &mut pairs, &mut free, p) {
-                Ok(()) => {
-                    let _ = rest.take(p);
-                }
-                Err(seen) => return Err(reached(pairs.as_slice(), &seen, p)),
+    for p in 0..16u8 {
+        for _ in 0..rest.count(p) {
+            if let Err(seen) = place_next(relation, &mut pairs, &mut free, p) {
+                let places = reached(pairs.as_slice(), &seen, p);
+                return Err(PairingRefusal::NoPairing((Side::Left, places)));
             }
+            let _ = rest.take(p);
         }
     }
     Ok(pairs)
@@ -210,21 +199,6 @@ fn marked(bag: &PlaceBag) -> PlaceSet
         }
     }
     places
-}
-
-/// Pairs two bags of one size, or else shows a set of left places.
-pub(crate) fn decide_equal(
-    relation: &Relation,
-    left: &PlaceBag,
-    right: &PlaceBag,
-) -> Result<Sequence<(u8, u8)>, PairingRefusal>
-    requires { size (bag_of left.now) ≡ size (bag_of right.now) }
-    ensures { Decided (relation_of relation.now) (bag_of left.now) (bag_of right.now) result }
-{
-    match pair_equal(relation, left, right) {
-        Ok(pairs) => Ok(pairs),
-        Err(places) => Err(PairingRefusal::NoPairing((Side::Left, places))),
-    }
 }
 
 /// The refusal where the left bag is the larger.
