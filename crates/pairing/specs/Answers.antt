@@ -22,6 +22,11 @@ abbrev pub on_side : Side → Bag → Bag → Bag
 on_side Left m n = m
 on_side Right m n = n
 
+-- the bag of the side is the larger
+abbrev pub LargerOn : Side → Bag → Bag → Type 0
+LargerOn Left m n = size n < size m
+LargerOn Right m n = size m < size n
+
 -- the set of places of a side outnumbers the related places of the other side
 abbrev pub OutnumbersFrom : Side → PlaceRelation → Bag → Bag → Subset → Type 0
 OutnumbersFrom Left R m n S = Outnumbers R m n S

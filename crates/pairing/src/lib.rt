@@ -11,7 +11,8 @@ ghost use Rattle.places.specs.Meanings.{bag_of, relation_of};
 
 use bags::Sequence;
 use places::{PlaceBag, PlaceSet, Relation, Side};
-use search::{decide_equal, larger_left, larger_right};
+use search::{decide_equal, larger};
+use std::cmp::Ordering;
 
 mod search;
 
@@ -52,14 +53,10 @@ pub fn find_pairing(
 ) -> Result<Sequence<(u8, u8), 64>, PairingRefusal>
     ensures { Decided (relation_of relation.now) (bag_of left.now) (bag_of right.now) result }
 {
-    let lefts = left.size();
-    let rights = right.size();
-    if lefts > rights {
-        Err(larger_left(relation, left, right))
-    } else if lefts < rights {
-        Err(larger_right(relation, left, right))
-    } else {
-        decide_equal(relation, left, right)
+    match left.size().cmp(&right.size()) {
+        Ordering::Greater => Err(larger(Side::Left, relation, left, right)),
+        Ordering::Less => Err(larger(Side::Right, relation, left, right)),
+        Ordering::Equal => decide_equal(relation, left, right),
     }
 }
 

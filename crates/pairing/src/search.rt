@@ -2,7 +2,7 @@
 //! of places to one that has.
 ghost use Rattle.std.specs.Prelude.{◌≡◌, ℕ, ◌+◌, ◌-◌, ◌<◌, ◌≤◌, true, false, [], ◌∷◌, ◌++◌, length, set, Err, MatchBool, MatchOption, MatchResult, nat_lt, slice_set};
 ghost use Rattle.bags.specs.Items.{items};
-ghost use Rattle.pairing.specs.Answers.{Decided};
+ghost use Rattle.pairing.specs.Answers.{Decided, LargerOn};
 ghost use Rattle.pairing.specs.Closure.{Pairing};
 ghost use Rattle.pairing.specs.Search.{left_end, unseen, Held, NoHolder, Holder, Opened, Shut, Trying, Blocked, Room, Added, Reached, Fails};
 ghost use Rattle.places.specs.Bags.{single, ◌⊕◌, ◌⊖◌};
@@ -201,18 +201,18 @@ fn marked(bag: &PlaceBag) -> PlaceSet
     places
 }
 
-/// The refusal where the left bag is the larger.
-pub(crate) fn larger_left(relation: &Relation, left: &PlaceBag, right: &PlaceBag) -> PairingRefusal
-    requires { size (bag_of right.now) < size (bag_of left.now) }
+/// The refusal where the bag of a side is the larger.
+pub(crate) fn larger(
+    side: Side,
+    relation: &Relation,
+    left: &PlaceBag,
+    right: &PlaceBag,
+) -> PairingRefusal
+    requires { LargerOn side (bag_of left.now) (bag_of right.now) }
     ensures { Decided (relation_of relation.now) (bag_of left.now) (bag_of right.now) (Err result) }
 {
-    PairingRefusal::NoPairing((Side::Left, marked(left)))
-}
-
-/// The refusal where the right bag is the larger.
-pub(crate) fn larger_right(relation: &Relation, left: &PlaceBag, right: &PlaceBag) -> PairingRefusal
-    requires { size (bag_of left.now) < size (bag_of right.now) }
-    ensures { Decided (relation_of relation.now) (bag_of left.now) (bag_of right.now) (Err result) }
-{
-    PairingRefusal::NoPairing((Side::Right, marked(right)))
+    match side {
+        Side::Left => PairingRefusal::NoPairing((Side::Left, marked(left))),
+        Side::Right => PairingRefusal::NoPairing((Side::Right, marked(right))),
+    }
 }
