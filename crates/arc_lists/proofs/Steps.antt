@@ -1,12 +1,17 @@
--- The steps of the loops over arcs.
-use Rattle.std.proofs.Common.{◌≡◌, ℕ, zero, suc, ◌+◌, ◌<◌, ◌≤◌, min, Bool, true, false, ◌&&◌, ◌||◌, leb, List, [], ◌∷◌, ◌++◌, length, get_or, take, drop, sym, refl, ap, ◌∙◌, subst, inl, inr, add-one, arith}
-use Rattle.std.proofs.lemmas.List.{at_drop_more, at_drop_all, take_more}
-use Rattle.std.proofs.lemmas.Bool.{cases_eq, cases_lt, and_left, and_right, lt-leb}
+-- The steps of the chains over arcs.
+use Rattle.std.proofs.Common.{◌≡◌, ℕ, zero, suc, ◌+◌, ◌≤◌, min, Bool, true, false, cond, leb, List, [], ◌∷◌, map, length, fold, filter, sum_by, sym, refl, ap, ◌∙◌, subst, inl, inr, add-one, arith}
+use Rattle.std.specs.List.{range_with_len}
+use Rattle.std.proofs.lemmas.List.FromFn.{map-range_with_len_more}
+use Rattle.std.proofs.lemmas.List.Sums.{fold_push, sum_by-cons}
+use Rattle.std.proofs.lemmas.Bool.{cases_eq, cases_lt, and_right, lt-leb}
 use Rattle.places.specs.Bags.{Bag}
 use Rattle.places.specs.Sets.{everywhere, tokens_below}
-use Rattle.places.specs.Laws.{tokens_more, tokens_at}
-use Rattle.arc_lists.specs.Arcs.{arc_is, arc_weight, weights, arc_bag, some_arc}
-use Rattle.arc_lists.specs.Lists.{arc_passes, arcs_pass_after, in_range, sums_fit, sums_pass, list_passes}
+use Rattle.places.specs.Laws.{tokens_more, tokens_none, tokens_at}
+use Rattle.nets.specs.declared.role.Role.{Role}
+use Rattle.nets.specs.declared.role.Role.TheVariants.{Input as RoleInput, Output as RoleOutput}
+use Rattle.arc_lists.specs.Arcs.{weights, arc_bag, capped}
+use Rattle.arc_lists.specs.Links.{role_number}
+use Rattle.arc_lists.specs.Lists.{in_range, list_passes}
 use Rattle.arc_lists.specs.Limits.{no_weight, sums_at, inputs_fit, outputs_fit, passed_parts}
 use Rattle.arc_lists.specs.declared.arc.Arc.{Arc}
 
@@ -20,28 +25,27 @@ min_high a b l = omega arith
 cap_more : (s w r : ℕ) → min (min (s + w) 255 + r) 255 ≡ min (s + (w + r)) 255
 cap_more s w r = omega arith
 
-pub weight_more : (xs : List Arc) (k t p i s w m : ℕ) (d : Arc) → i < length xs → w ≡ arc_weight k t p (get_or xs i d) → m ≡ min (s + w) 255 → min (m + weights k t p (drop (i + 1) xs)) 255 ≡ min (s + weights k t p (drop i xs)) 255
-weight_more xs k t p i s w m d h e f =
-    let one = at_drop_more (weights k t p) xs i d h in
-    ap (λ n. min (n + weights k t p (drop (i + 1) xs)) 255) (f ∙ ap (λ n. min (s + n) 255) e) ∙
-    cap_more s (arc_weight k t p (get_or xs i d)) (weights k t p (drop (i + 1) xs)) ∙
-    ap (λ n. min (s + n) 255) (sym one)
+-- adding up the elements that pass, with a cap
+pub capped_filter : {X : Type 0} (p : X → Bool) (f : X → ℕ) (xs : List X) (s : ℕ) → s ≤ 255 → fold (capped f) s (filter p xs) ≡ min (s + sum_by (λ x. cond (p x) (f x) 0) xs) 255
+capped_filter p f [] s l = omega arith
+capped_filter p f (x ∷ xs) s l = here (p x) (capped_filter p f xs) ∙ ap (λ n. min (s + n) 255) (sym (sum_by-cons (λ y. cond (p y) (f y) 0) x xs))
+  where
+    here : (b : Bool) → ((t : ℕ) → t ≤ 255 → fold (capped f) t (filter p xs) ≡ min (t + sum_by (λ y. cond (p y) (f y) 0) xs) 255) → fold (capped f) s (cond b (x ∷ filter p xs) (filter p xs)) ≡ min (s + (cond b (f x) 0 + sum_by (λ y. cond (p y) (f y) 0) xs)) 255
+    here true rest = rest (min (s + f x) 255) (omega arith) ∙ cap_more s (f x) (sum_by (λ y. cond (p y) (f y) 0) xs)
+    here false rest = rest s l ∙ omega arith
 
-pub weight_all : (xs : List Arc) (k t p i s : ℕ) → length xs ≤ i → s ≤ 255 → min (s + weights k t p (drop i xs)) 255 ≡ s
-weight_all xs k t p i s h l =
-    let none = at_drop_all (weights k t p) xs i h in
-    ap (λ n. min (s + n) 255) none ∙ min_low (s + 0) 255 (omega arith) ∙ omega arith
-
-pub any_more : (xs : List Arc) (k t p i : ℕ) (r : Bool) (d : Arc) → i < length xs → r ≡ arc_is k t p (get_or xs i d) → some_arc k t p (drop i xs) ≡ (r || some_arc k t p (drop (i + 1) xs))
-any_more xs k t p i r d h e = at_drop_more (some_arc k t p) xs i d h ∙ ap (λ b. b || some_arc k t p (drop (i + 1) xs)) (sym e)
-
-pub any_all : (xs : List Arc) (k t p i : ℕ) → length xs ≤ i → some_arc k t p (drop i xs) ≡ false
-any_all xs k t p i h = at_drop_all (some_arc k t p) xs i h
-
-pub sum_more : (m : Bag) (k s w n : ℕ) → s ≡ min (tokens_below k everywhere m) 255 → w ≡ min (m k) 255 → n ≡ min (s + w) 255 → n ≡ min (tokens_below (k + 1) everywhere m) 255
-sum_more m k s w n e f g =
-    g ∙ ap (λ x. min (x + w) 255) e ∙ ap (λ x. min (min (tokens_below k everywhere m) 255 + x) 255) f ∙
-    caps (tokens_below k everywhere m) (m k) ∙ ap (λ x. min x 255) (sym (tokens_more k everywhere m))
+-- adding up the counts of a bag, with a cap on each and on the sum
+pub capped_bag : (m : Bag) (k : ℕ) → fold (capped (λ w. w)) 0 (map (λ p. min (m p) 255) (range_with_len 0 k)) ≡ min (tokens_below k everywhere m) 255
+capped_bag m zero = sym (ap (λ n. min n 255) (tokens_none everywhere m))
+capped_bag m (suc k) =
+    let f : ℕ → ℕ = λ p. min (m p) 255 in
+    ap (λ n. fold (capped (λ w. w)) 0 (map f (range_with_len 0 n))) (sym (add-one k)) ∙
+    ap (fold (capped (λ w. w)) 0) (map-range_with_len_more f 0 k k (omega arith)) ∙
+    fold_push (capped (λ w. w)) 0 (map f (range_with_len 0 k)) (f k) ∙
+    ap (λ n. min (n + min (m k) 255) 255) (capped_bag m k) ∙
+    caps (tokens_below k everywhere m) (m k) ∙
+    ap (λ n. min n 255) (sym (tokens_more k everywhere m)) ∙
+    ap (λ n. min (tokens_below n everywhere m) 255) (add-one k)
   where
     caps : (a b : ℕ) → min (min a 255 + min b 255) 255 ≡ min (a + b) 255
     caps a b = omega arith
@@ -55,33 +59,14 @@ range_cap lowest n l = elim (cases_lt n 255) [
       sym (and_right (leb lowest n) (leb n 4) (lt-leb n 4 (omega arith)))
 ]
 
-pub sums_more : (xs : List Arc) (k : ℕ) → sums_pass (k + 1) xs ≡ (sums_pass k xs && sums_fit xs k)
-sums_more xs k = rw add-one refl
-
-pub sums_not : (T : ℕ) (xs : List Arc) (t : ℕ) → t < T → sums_fit xs t ≡ false → sums_pass T xs ≡ false
-sums_not zero xs t l e = absurd (omega arith)
-sums_not (suc k) xs t l e = elim (cases_eq t k) [
-  | inl same ↦ and_right (sums_pass k xs) (sums_fit xs k) (ap (sums_fit xs) (sym same) ∙ e)
-  | inr other ↦ and_left (sums_pass k xs) (sums_fit xs k) (sums_not k xs t (omega arith) e)
-]
-
-pub arcs_more : (P T : ℕ) (xs : List Arc) (i : ℕ) (r : Bool) (d : Arc) → i < length xs → r ≡ arc_passes P T (take i xs) (get_or xs i d) → arcs_pass_after P T (take i xs) (drop i xs) ≡ (r && arcs_pass_after P T (take (i + 1) xs) (drop (i + 1) xs))
-arcs_more P T xs i r d h e =
-    at_drop_more (arcs_pass_after P T (take i xs)) xs i d h ∙
-    ap (λ b. b && arcs_pass_after P T (take i xs ++ get_or xs i d ∷ []) (drop (i + 1) xs)) (sym e) ∙
-    ap (λ before. r && arcs_pass_after P T before (drop (i + 1) xs)) (sym (take_more xs i d h))
-
-pub arcs_all : (P T : ℕ) (xs : List Arc) (i : ℕ) → length xs ≤ i → arcs_pass_after P T (take i xs) (drop i xs) ≡ true
-arcs_all P T xs i h = at_drop_all (arcs_pass_after P T (take i xs)) xs i h
-
 -- what an input or an output weighs in a list that passes
 pub weights_few : (P : ℕ) (labels : List ℕ) (arcs : List Arc) (k t p : ℕ) → list_passes P labels arcs ≡ true → k ≤ 1 → weights k t p arcs ≤ 4
 weights_few P labels arcs k t p e l =
     let h = passed_parts P labels arcs e in
     elim (cases_lt t (length labels)) [
-      | inr beyond ↦ omega (arith, no_weight P (length labels) k t p [] arcs h.one_by_one (inl beyond))
+      | inr beyond ↦ omega (arith, no_weight P (length labels) k t p arcs h.one_by_one (inl beyond))
       | inl there ↦ elim (cases_lt p P) [
-        | inr beyond ↦ omega (arith, no_weight P (length labels) k t p [] arcs h.one_by_one (inr beyond))
+        | inr beyond ↦ omega (arith, no_weight P (length labels) k t p arcs h.one_by_one (inr beyond))
         | inl inside ↦
             let fit = sums_at (length labels) arcs h.sums t there in
             elim (cases_eq k 0) [
@@ -95,3 +80,8 @@ weights_few P labels arcs k t p e l =
 
 pub capped_is : (n : ℕ) → n ≤ 4 → min n 255 ≡ n
 capped_is n l = min_low n 255 (omega arith)
+
+-- the number of a role's kind
+pub role_low : (r : Role) → role_number r ≤ 1
+role_low RoleInput = omega arith
+role_low RoleOutput = omega arith

@@ -1,4 +1,5 @@
 pub mod Arcs
+pub mod Links
 pub mod Lists
 pub mod Limits
 pub mod Refusals

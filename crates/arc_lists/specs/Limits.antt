@@ -1,12 +1,14 @@
 -- The net of a list that passes keeps the limits of nets. Assumes nothing.
-use Rattle.std.specs.Prelude.{◌≡◌, ℕ, zero, suc, ◌^◌, ◌<◌, ◌≤◌, true, false, cond, not, ◌&&◌, ◌⊎◌, List, [], ◌∷◌, ◌++◌, length, ◌==◌, nat_le, nat_lt, slice_index, refl}
-use Rattle.std.proofs.Common.{ap, ◌∙◌, inl, inr, arith}
-use Rattle.std.proofs.lemmas.List.{get_or_past}
+use Rattle.std.specs.Prelude.{◌≡◌, ℕ, zero, suc, ◌+◌, ◌^◌, ◌<◌, ◌≤◌, Bool, true, false, cond, not, ◌&&◌, ◌⊎◌, List, [], ◌∷◌, ◌++◌, length, ◌==◌, nat_le, nat_lt, slice_index, refl}
+use Rattle.std.proofs.Common.{take, sym, ap, ◌∙◌, inl, inr, append_assoc, arith}
+use Rattle.std.specs.List.{list_all, enumerate_from, range_with_len}
+use Rattle.std.proofs.lemmas.List.{get_or_past, length_push, take-append-le, take_all}
+use Rattle.std.proofs.lemmas.List.Sums.{sum_by-cons}
 use Rattle.std.proofs.lemmas.Bool.{ltb-true, leb-true, and_parts, and_left, and_right, ne_eqb, or_from, cases_eq}
 use Rattle.places.specs.Sets.{size}
 use Rattle.nets.specs.Meaning.{Limits, least_output}
-use Rattle.arc_lists.specs.Arcs.{arc_is, weights, arc_bag, some_arc}
-use Rattle.arc_lists.specs.Lists.{limits_pass, weight_passes, arc_passes, arcs_pass_after, arcs_pass, in_range, sums_fit, sums_pass, list_passes, arcs_meaning}
+use Rattle.arc_lists.specs.Arcs.{arc_is, arc_weight, weights, arc_bag, some_arc}
+use Rattle.arc_lists.specs.Lists.{limits_pass, weight_passes, arc_passes, arcs_pass, in_range, sums_fit, sums_pass, list_passes, arcs_meaning}
 use Rattle.arc_lists.specs.declared.arc.Arc.{Arc}
 
 -- beyond the transitions, or beyond the places
@@ -23,30 +25,59 @@ not_there P T k t p before a e (inr g) =
     let l = ltb-true a.place P inside.1 in
     and_right (a.kind == k) (a.transition == t && a.place == p) (and_right (a.transition == t) (a.place == p) (ne_eqb a.place p (λ s. omega arith)))
 
+-- the arcs pass, each beside those before it: read from the front, behind some arcs that were read before
+arcs_pass_after : ℕ → ℕ → List Arc → List Arc → Bool
+arcs_pass_after P T before [] = true
+arcs_pass_after P T before (a ∷ rest) = arc_passes P T before a && arcs_pass_after P T (before ++ a ∷ []) rest
+
+-- each arc with its index passes beside those in front of it
+passes_listed : (P T : ℕ) (before xs : List Arc) → list_all (λ (x : ℕ × Arc). arc_passes P T (take x.0 (before ++ xs)) x.1) (enumerate_from (length before) xs) ≡ arcs_pass_after P T before xs
+unfolding arcs_pass_after
+passes_listed P T before [] = refl
+passes_listed P T before (a ∷ rest) =
+    let front : take (length before) (before ++ a ∷ rest) ≡ before = take-append-le (length before) before (a ∷ rest) (omega arith) ∙ take_all (length before) before (omega arith) in
+    let whole : (before ++ a ∷ []) ++ rest ≡ before ++ a ∷ rest = append_assoc before (a ∷ []) rest in
+    ap (λ (f : List Arc). arc_passes P T f a && list_all (λ (x : ℕ × Arc). arc_passes P T (take x.0 (before ++ a ∷ rest)) x.1) (enumerate_from (length before + 1) rest)) front ∙
+    ap (λ (ys : List Arc). arc_passes P T before a && list_all (λ (x : ℕ × Arc). arc_passes P T (take x.0 ys) x.1) (enumerate_from (length before + 1) rest)) (sym whole) ∙
+    ap (λ n. arc_passes P T before a && list_all (λ (x : ℕ × Arc). arc_passes P T (take x.0 ((before ++ a ∷ []) ++ rest)) x.1) (enumerate_from n rest)) (sym (length_push before a)) ∙
+    ap (λ b. arc_passes P T before a && b) (passes_listed P T (before ++ a ∷ []) rest)
+
 -- no arc weighs anything there, and none inhibits
-pub no_weight : (P T k t p : ℕ) (before arcs : List Arc) → arcs_pass_after P T before arcs ≡ true → Beyond P T t p → weights k t p arcs ≡ 0
-no_weight P T k t p before [] e g = refl
-no_weight P T k t p before (a ∷ rest) e g =
+weight_after : (P T k t p : ℕ) (before arcs : List Arc) → arcs_pass_after P T before arcs ≡ true → Beyond P T t p → weights k t p arcs ≡ 0
+unfolding arcs_pass_after
+weight_after P T k t p before [] e g = refl
+weight_after P T k t p before (a ∷ rest) e g =
     let both = and_parts (arc_passes P T before a) (arcs_pass_after P T (before ++ a ∷ []) rest) e in
     let here = ap (λ b. cond b a.weight 0) (not_there P T k t p before a both.0 g) in
-    let later = no_weight P T k t p (before ++ a ∷ []) rest both.1 g in
-    omega (arith, here, later)
+    let later = weight_after P T k t p (before ++ a ∷ []) rest both.1 g in
+    sum_by-cons (arc_weight k t p) a rest ∙ omega (arith, here, later)
 
-pub no_arc : (P T k t p : ℕ) (before arcs : List Arc) → arcs_pass_after P T before arcs ≡ true → Beyond P T t p → some_arc k t p arcs ≡ false
-no_arc P T k t p before [] e g = refl
-no_arc P T k t p before (a ∷ rest) e g =
+arc_after : (P T k t p : ℕ) (before arcs : List Arc) → arcs_pass_after P T before arcs ≡ true → Beyond P T t p → some_arc k t p arcs ≡ false
+unfolding arcs_pass_after
+arc_after P T k t p before [] e g = refl
+arc_after P T k t p before (a ∷ rest) e g =
     let both = and_parts (arc_passes P T before a) (arcs_pass_after P T (before ++ a ∷ []) rest) e in
-    or_from (arc_is k t p a) (some_arc k t p rest) (not_there P T k t p before a both.0 g) (no_arc P T k t p (before ++ a ∷ []) rest both.1 g)
+    or_from (arc_is k t p a) (some_arc k t p rest) (not_there P T k t p before a both.0 g) (arc_after P T k t p (before ++ a ∷ []) rest both.1 g)
+
+pub no_weight : (P T k t p : ℕ) (arcs : List Arc) → arcs_pass P T arcs ≡ true → Beyond P T t p → weights k t p arcs ≡ 0
+no_weight P T k t p arcs e g = weight_after P T k t p [] arcs (sym (passes_listed P T [] arcs) ∙ e) g
+
+pub no_arc : (P T k t p : ℕ) (arcs : List Arc) → arcs_pass P T arcs ≡ true → Beyond P T t p → some_arc k t p arcs ≡ false
+no_arc P T k t p arcs e g = arc_after P T k t p [] arcs (sym (passes_listed P T [] arcs) ∙ e) g
+
+-- a test that passes at each number of a range passes at a number in it
+each_in_range : (f : ℕ → Bool) (a n t : ℕ) → list_all f (range_with_len a n) ≡ true → a ≤ t → t < a + n → f t ≡ true
+each_in_range f a zero t e low high = absurd (omega arith)
+each_in_range f a (suc n) t e low high =
+    let both = and_parts (f a) (list_all f (range_with_len (a + 1) n)) e in
+    elim (cases_eq t a) [
+      | inl same ↦ ap f same ∙ both.0
+      | inr other ↦ each_in_range f (a + 1) n t both.1 (omega arith) (omega arith)
+    ]
 
 -- the sums fit at each transition
 pub sums_at : (T : ℕ) (arcs : List Arc) → sums_pass T arcs ≡ true → (t : ℕ) → t < T → sums_fit arcs t ≡ true
-sums_at zero arcs e t l = absurd (omega arith)
-sums_at (suc k) arcs e t l =
-    let both = and_parts (sums_pass k arcs) (sums_fit arcs k) e in
-    elim (cases_eq t k) [
-      | inl same ↦ ap (sums_fit arcs) same ∙ both.1
-      | inr other ↦ sums_at k arcs both.0 t (omega arith)
-    ]
+sums_at T arcs e t l = each_in_range (sums_fit arcs) 0 T t e (omega arith) (omega arith)
 
 range_parts : (lowest n : ℕ) → in_range lowest n ≡ true → (lowest ≤ n) × (n ≤ 4)
 range_parts lowest n e =
@@ -86,10 +117,10 @@ arcs_limits P labels arcs e short =
       few_outputs = λ t l. (outputs_fit arcs t (sums_at (length labels) arcs h.sums t l)).1;
       short_label = short;
       no_label = λ t g. get_or_past labels t 0 g;
-      no_transition_input = λ t p g. no_weight P (length labels) 0 t p [] arcs h.one_by_one (inl g);
-      no_transition_output = λ t p g. no_weight P (length labels) 1 t p [] arcs h.one_by_one (inl g);
-      no_transition_inhibits = λ t p g. no_arc P (length labels) 2 t p [] arcs h.one_by_one (inl g);
-      no_place_input = λ t p g. no_weight P (length labels) 0 t p [] arcs h.one_by_one (inr g);
-      no_place_output = λ t p g. no_weight P (length labels) 1 t p [] arcs h.one_by_one (inr g);
-      no_place_inhibits = λ t p g. no_arc P (length labels) 2 t p [] arcs h.one_by_one (inr g);
+      no_transition_input = λ t p g. no_weight P (length labels) 0 t p arcs h.one_by_one (inl g);
+      no_transition_output = λ t p g. no_weight P (length labels) 1 t p arcs h.one_by_one (inl g);
+      no_transition_inhibits = λ t p g. no_arc P (length labels) 2 t p arcs h.one_by_one (inl g);
+      no_place_input = λ t p g. no_weight P (length labels) 0 t p arcs h.one_by_one (inr g);
+      no_place_output = λ t p g. no_weight P (length labels) 1 t p arcs h.one_by_one (inr g);
+      no_place_inhibits = λ t p g. no_arc P (length labels) 2 t p arcs h.one_by_one (inr g);
     }

@@ -1,5 +1,6 @@
 -- When a list of arc records passes, and the net that it means. Assumes nothing.
-use Rattle.std.specs.Prelude.{ℕ, zero, suc, Bool, true, false, cond, not, ◌&&◌, List, [], ◌∷◌, ◌++◌, length, ◌==◌, nat_le, nat_lt, slice_index}
+use Rattle.std.specs.Prelude.{ℕ, Bool, false, cond, not, ◌&&◌, List, length, take, ◌==◌, nat_le, nat_lt, slice_index}
+use Rattle.std.specs.List.{list_all, enumerate_from, range_with_len}
 use Rattle.places.specs.Sets.{size}
 use Rattle.nets.specs.Meaning.{Meaning, least_output}
 use Rattle.arc_lists.specs.Arcs.{weights, arc_bag, some_arc}
@@ -17,14 +18,9 @@ weight_passes a = nat_le a.kind 2 && (nat_le 1 a.weight && nat_le a.weight (cond
 abbrev pub arc_passes : ℕ → ℕ → List Arc → Arc → Bool
 arc_passes P T before a = (nat_lt a.transition T && nat_lt a.place P) && (weight_passes a && not (some_arc a.kind a.transition a.place before))
 
--- the arcs of a list pass, each beside those before it
-abbrev pub arcs_pass_after : ℕ → ℕ → List Arc → List Arc → Bool
-arcs_pass_after P T before [] = true
-arcs_pass_after P T before (a ∷ rest) = arc_passes P T before a && arcs_pass_after P T (before ++ a ∷ []) rest
-
--- the second stage: the arcs pass, one by one
+-- the second stage: the arcs pass, each beside those before it
 abbrev pub arcs_pass : ℕ → ℕ → List Arc → Bool
-arcs_pass P T arcs = arcs_pass_after P T [] arcs
+arcs_pass P T arcs = list_all (λ (x : ℕ × Arc). arc_passes P T (take x.0 arcs) x.1) (enumerate_from 0 arcs)
 
 -- a sum is at least the least, and at most 4
 abbrev pub in_range : ℕ → ℕ → Bool
@@ -36,8 +32,7 @@ sums_fit arcs t = in_range 1 (size (arc_bag 0 arcs t)) && in_range least_output 
 
 -- the third stage: the sums fit at each transition below T
 abbrev pub sums_pass : ℕ → List Arc → Bool
-sums_pass zero arcs = true
-sums_pass (suc t) arcs = sums_pass t arcs && sums_fit arcs t
+sums_pass T arcs = list_all (sums_fit arcs) (range_with_len 0 T)
 
 -- a list passes: P places, the labels of its transitions, and its arcs
 abbrev pub list_passes : ℕ → List ℕ → List Arc → Bool

@@ -7,6 +7,8 @@ ghost use Rattle.arc_lists.specs.Lists.{list_passes};
 ghost use Rattle.arc_lists.specs.Refusals.{arc_list_number, checked};
 
 mod arc;
+mod kind;
+mod link;
 mod list;
 mod reading;
 
@@ -14,7 +16,7 @@ pub use arc::Arc;
 pub use list::ArcList;
 
 /// Why a list of arcs is refused.
-#[derive(Clone, Copy)]
+#[derive(Clone, Copy, Debug, PartialEq, Eq)]
 pub enum ArcListRefusal {
     /// 22: the list does not keep the limits of nets.
     OverLimits,
@@ -35,9 +37,7 @@ impl ArcListRefusal {
 pub fn check_arcs(places: u8, labels: &[u64], arcs: &[Arc]) -> Result<(), ArcListRefusal>
     ensures { result ≡ checked (list_passes places labels.now arcs.now) }
 {
-    if reading::passes(places, labels, arcs) {
-        Ok(())
-    } else {
-        Err(ArcListRefusal::OverLimits)
-    }
+    reading::passes(places, labels, arcs)
+        .then_some(())
+        .ok_or(ArcListRefusal::OverLimits)
 }

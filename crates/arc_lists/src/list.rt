@@ -4,7 +4,7 @@ ghost use Rattle.arc_lists.specs.Lists.{list_passes};
 use crate::arc::Arc;
 
 /// A net over the caller's slices: how many places it has, a label for each transition, and its arcs.
-#[derive(Clone, Copy)]
+#[derive(Clone, Copy, Debug, PartialEq, Eq)]
 pub struct ArcList<'a> {
     places: u8,
     labels: &'a [u64],

@@ -1,99 +1,102 @@
 //! Reading a slice of arcs.
-ghost use Rattle.std.specs.Prelude.{◌≡◌, ℕ, ◌^◌, ◌<◌, ◌≤◌, min, slice_index};
+ghost use Rattle.std.specs.Prelude.{◌≡◌, map, fold, filter, min, slice_index};
+ghost use Rattle.std.specs.List.{range_with_len};
 ghost use Rattle.places.specs.Sets.{size};
-ghost use Rattle.arc_lists.specs.Arcs.{arc_bag, arc_is, arc_weight, some_arc, weights};
-ghost use Rattle.arc_lists.specs.Lists.{arc_passes, arcs_pass, in_range, limits_pass, list_passes, sums_fit, sums_pass, weight_passes};
+ghost use Rattle.arc_lists.specs.Arcs.{arc_bag, capped};
+ghost use Rattle.arc_lists.specs.declared.arc.Arc.{Arc};
+ghost use Rattle.arc_lists.specs.Links.{link_weights, role_number, some_weighs, weighs};
+ghost use Rattle.arc_lists.specs.Lists.{arc_passes, arcs_pass, in_range, limits_pass, list_passes, sums_fit, sums_pass};
 
 use crate::arc::Arc;
+use crate::kind::Kind;
+use crate::link::Link;
+use nets::Role;
 
-/// Whether an arc is of this kind, at this transition and place.
-fn is_at(a: &Arc, kind: u8, t: u8, p: u8) -> bool
-    ensures { result ≡ arc_is kind t p a.now }
+/// The least and the greatest sum of the weights of a role.
+const LEAST_SUM: u8 = 1;
+
+const MOST_SUM: u8 = 4;
+
+/// Whether an arc weighs a link.
+fn is_of(a: &Arc, link: Link) -> bool
+    ensures { result ≡ weighs link a.now }
 {
-    a.kind == kind && a.transition == t && a.place == p
+    a.kind == link.kind.number() && a.transition == link.transition && a.place == link.place
 }
 
-/// What an arc weighs for this kind, at this transition and place.
-fn weight_of(a: &Arc, kind: u8, t: u8, p: u8) -> u8
-    ensures { result ≡ arc_weight kind t p a.now }
+/// Adds up the weights of the arcs of a link, and stays at 255 from there on.
+fn add_up(arcs: &[Arc], link: Link) -> u8
+    ensures { result ≡ fold (capped (λ (a : Arc). a.weight)) 0 (filter (weighs link) arcs.now) }
 {
-    if is_at(a, kind, t, p) { a.weight } else { 0 }
+    arcs.iter()
+        .filter(|a| is_of(a, link))
+        .fold(0u8, |sum, a| sum.saturating_add(a.weight))
 }
 
-/// The sum of the weights of the arcs of this kind, or 255 where it is more.
-pub(crate) fn weight_at(arcs: &[Arc], kind: u8, t: u8, p: u8) -> u8
-    ensures { result ≡ min (weights kind t p arcs.now) 255 }
+/// The sum of the weights of the arcs of a link, or 255 where it is more.
+pub(crate) fn weight_of(arcs: &[Arc], link: Link) -> u8
+    ensures { result ≡ min (link_weights link arcs.now) 255 }
 {
-    let mut sum = 0u8;
-    for a in arcs {
-        sum = sum.saturating_add(weight_of(a, kind, t, p));
-    }
-    sum
+    add_up(arcs, link)
 }
 
-/// Whether some arc is of this kind.
-pub(crate) fn any_at(arcs: &[Arc], kind: u8, t: u8, p: u8) -> bool
-    ensures { result ≡ some_arc kind t p arcs.now }
+/// Whether some arc weighs a link.
+pub(crate) fn any_of(arcs: &[Arc], link: Link) -> bool
+    ensures { result ≡ some_weighs link arcs.now }
 {
-    for a in arcs {
-        if is_at(a, kind, t, p) {
-            return true;
-        }
-    }
-    false
+    arcs.iter().any(|a| is_of(a, link))
 }
 
-/// The weights of this kind at all places, or 255 where they are more.
-fn weight_sum(arcs: &[Arc], kind: u8, t: u8) -> u8
-    ensures { result ≡ min (size (arc_bag kind arcs.now t)) 255 }
+/// Adds up the weights of a role at all places, and stays at 255 from there on.
+fn add_up_places(arcs: &[Arc], role: Role, transition: u8) -> u8
+    ensures { result ≡ fold (capped (λ w. w)) 0 (map (λ p. min (arc_bag (role_number role) arcs.now transition p) 255) (range_with_len 0 16)) }
 {
-    let mut sum = 0u8;
-    for p in 0..16u8 {
-        sum = sum.saturating_add(weight_at(arcs, kind, t, p));
-    }
-    sum
+    let kind = Kind::from(role);
+    (0..16u8)
+        .map(|place| weight_of(
+            arcs,
+            Link {
+                kind,
+                transition,
+                place,
+            },
+        ))
+        .fold(0u8, |sum, weight| sum.saturating_add(weight))
 }
 
-/// Whether a sum is at least `least`, and at most 4.
-fn lies_in(least: u8, sum: u8) -> bool
-    ensures { result ≡ in_range least sum }
+/// The weights of a role at all places, or 255 where they are more.
+fn weight_sum(arcs: &[Arc], role: Role, transition: u8) -> u8
+    ensures { result ≡ min (size (arc_bag (role_number role) arcs.now transition)) 255 }
 {
-    least <= sum && sum <= 4
+    add_up_places(arcs, role, transition)
 }
 
-/// Whether the weights of this kind add up to a sum in range.
-fn sum_fits(arcs: &[Arc], kind: u8, t: u8, least: u8) -> bool
-    requires { least ≤ 4 }
-    ensures { result ≡ in_range least (size (arc_bag kind arcs.now t)) }
+/// Whether a sum is neither too small nor too large.
+fn lies_in_range(sum: u8) -> bool
+    ensures { result ≡ in_range 1 sum }
 {
-    lies_in(least, weight_sum(arcs, kind, t))
+    (LEAST_SUM..=MOST_SUM).contains(&sum)
+}
+
+/// Whether the weights of a role add up to a sum in range.
+fn sum_fits(arcs: &[Arc], role: Role, t: u8) -> bool
+    ensures { result ≡ in_range 1 (size (arc_bag (role_number role) arcs.now t)) }
+{
+    lies_in_range(weight_sum(arcs, role, t))
 }
 
 /// Whether the sums of a transition fit.
 fn both_fit(arcs: &[Arc], t: u8) -> bool
     ensures { result ≡ sums_fit arcs.now t }
 {
-    sum_fits(arcs, 0, t, 1) && sum_fits(arcs, 1, t, 1)
+    sum_fits(arcs, Role::Input, t) && sum_fits(arcs, Role::Output, t)
 }
 
 /// Whether the sums of all transitions fit.
 fn all_fit(transitions: u8, arcs: &[Arc]) -> bool
     ensures { result ≡ sums_pass transitions arcs.now }
 {
-    for t in 0..transitions {
-        if !both_fit(arcs, t) {
-            return false;
-        }
-    }
-    true
-}
-
-/// Whether the kind and the weight of an arc pass.
-fn weighs_right(a: &Arc) -> bool
-    ensures { result ≡ weight_passes a.now }
-{
-    let most = if a.kind == 2 { 1 } else { 4 };
-    a.kind <= 2 && a.weight >= 1 && a.weight <= most
+    (0..transitions).all(|t| both_fit(arcs, t))
 }
 
 /// Whether an arc passes beside the arcs before it.
@@ -102,20 +105,17 @@ fn one_passes(places: u8, transitions: u8, before: &[Arc], a: &Arc) -> bool
 {
     a.transition < transitions
         && a.place < places
-        && weighs_right(a)
-        && !any_at(before, a.kind, a.transition, a.place)
+        && a.link().is_ok_and(|link| (1..=link.kind.most()).contains(&a.weight)
+            && !any_of(before, link))
 }
 
 /// Whether the arcs pass, one by one.
 fn all_pass(places: u8, transitions: u8, arcs: &[Arc]) -> bool
     ensures { result ≡ arcs_pass places transitions arcs.now }
 {
-    for i in 0..arcs.len() {
-        if !one_passes(places, transitions, &arcs[..i], &arcs[i]) {
-            return false;
-        }
-    }
-    true
+    arcs.iter()
+        .enumerate()
+        .all(|(i, a)| one_passes(places, transitions, &arcs[..i], a))
 }
 
 /// Whether there are few enough places and labels.
@@ -136,19 +136,9 @@ pub(crate) fn passes(places: u8, labels: &[u64], arcs: &[Arc]) -> bool
     all_pass(places, transitions, arcs) && all_fit(transitions, arcs)
 }
 
-/// Reads each label, which shows that it is of 64 bits.
-pub(crate) fn read_labels(labels: &[u64])
-    ensures { (t : ℕ) → slice_index labels.now t < 2 ^ 64 }
-{
-    for label in labels {
-        let _read = *label;
-    }
-}
-
 /// The label of a transition, or 0 past the last.
 pub(crate) fn label_at(labels: &[u64], t: u8) -> u64
     ensures { result ≡ slice_index labels.now t }
 {
-    let i = t as usize;
-    if i < labels.len() { labels[i] } else { 0 }
+    labels.get(t as usize).copied().unwrap_or(0)
 }

@@ -1,9 +1,9 @@
 -- The steps of charts.
-use Rattle.std.proofs.Common.{◌≡◌, ℕ, zero, suc, ◌+◌, ◌<◌, ◌≤◌, Bool, true, false, cond, ◌&&◌, ◌||◌, ltb, leb, List, [], ◌∷◌, ◌++◌, map, length, get_or, set, is_some, is_ok, Some, None, Ok, Err, Option, sym, refl, ap, ◌∙◌, subst, inl, inr, add-one, arith}
-use Rattle.std.specs.List.{range_with_len}
+use Rattle.std.proofs.Common.{◌≡◌, ℕ, ◌+◌, ◌<◌, ◌≤◌, Bool, true, false, cond, ◌||◌, ltb, leb, List, [], ◌∷◌, ◌++◌, map, length, get_or, set, is_some, is_ok, Some, None, Ok, Err, Option, sym, refl, ap, ◌∙◌, subst, inl, inr, arith}
+use Rattle.std.specs.List.{list_all, range_with_len}
 use Rattle.std.specs.Option.{option_map}
 use Rattle.std.proofs.lemmas.List.{get_or_push, get_or_append_left, get_or-set_same, get_or-set_other, get_or-map, length_push, length-map, map-set}
-use Rattle.std.proofs.lemmas.Bool.{cases_lt, cases_eq, false≢true, and_parts, and_from, and_left, and_right, or_cases, or_left, or_right, ltb-true, lt-ltb, leb-true}
+use Rattle.std.proofs.lemmas.Bool.{cases_lt, false≢true, and_parts, and_from, or_cases, or_left, or_right, ltb-true, lt-ltb, leb-true}
 use Rattle.places.specs.Sets.{size}
 use Rattle.nets.specs.Meaning.{least_output}
 use Rattle.charts.specs.Charts.{headed}
@@ -92,29 +92,18 @@ labels_more K labels T n m e l below here = up_to (λ t. K (get_or (set labels T
     (λ t less. subst K (sym (get_or-set_other labels T t m 0 (λ same. omega arith))) (below t less))
     (subst K (sym (get_or-set_same labels T m 0 l)) here)
 
--- the places of a row, one place more
-pub empty_more : (P k : ℕ) (r : RowView) → empty_from P (k + 1) r ≡ (empty_from P k r && (ltb k P || empty_at r k))
-unfolding empty_from
-empty_more P k r = rw add-one refl
-
-pub empty_not : (P k p : ℕ) (r : RowView) → p < k → (ltb p P || empty_at r p) ≡ false → empty_from P k r ≡ false
-unfolding empty_from
-empty_not P zero p r l e = absurd (omega arith)
-empty_not P (suc k) p r l e = elim (cases_eq p k) [
-  | inl same ↦ and_right (empty_from P k r) (ltb k P || empty_at r k) (ap (λ q. ltb q P || empty_at r q) (sym same) ∙ e)
-  | inr other ↦ and_left (empty_from P k r) (ltb k P || empty_at r k) (empty_not P k p r (omega arith) e)
-]
+-- what passes at each element where one test does passes where a weaker one does
+weaker : (f g : ℕ → Bool) → ((p : ℕ) → f p ≡ true → g p ≡ true) → (ps : List ℕ) → list_all f ps ≡ true → list_all g ps ≡ true
+weaker f g h [] e = refl
+weaker f g h (p ∷ ps) e = let both = and_parts (f p) (list_all f ps) e in and_from (g p) (list_all g ps) (h p both.0) (weaker f g h ps both.1)
 
 -- over more places
 empty_wider : (P Q k : ℕ) (r : RowView) → P ≤ Q → empty_from P k r ≡ true → empty_from Q k r ≡ true
 unfolding empty_from
-empty_wider P Q zero r l e = refl
-empty_wider P Q (suc k) r l e =
-    let h = and_parts (empty_from P k r) (ltb k P || empty_at r k) e in
-    and_from (empty_from Q k r) (ltb k Q || empty_at r k) (empty_wider P Q k r l h.0) (elim (or_cases (ltb k P) (empty_at r k) h.1) [
-      | inl low ↦ or_left (ltb k Q) (empty_at r k) (lt-ltb k Q (omega (arith, ltb-true k P low)))
-      | inr there ↦ or_right (ltb k Q) (empty_at r k) there
-    ])
+empty_wider P Q k r l e = weaker (λ p. ltb p P || empty_at r p) (λ p. ltb p Q || empty_at r p) (λ p h. elim (or_cases (ltb p P) (empty_at r p) h) [
+  | inl low ↦ or_left (ltb p Q) (empty_at r p) (lt-ltb p Q (omega (arith, ltb-true p P low)))
+  | inr there ↦ or_right (ltb p Q) (empty_at r p) there
+]) (range_with_len 0 k) e
 
 pub inside_wider : (P Q T : ℕ) (rows : List ChartRow) → P ≤ Q → Inside P T rows → Inside Q T rows
 inside_wider P Q T rows l h t less = empty_wider P Q 16 (row_of rows t) l (h t less)

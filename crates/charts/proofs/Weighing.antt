@@ -1,11 +1,12 @@
 -- The steps of weights.
-use Rattle.std.proofs.Common.{◌≡◌, ℕ, zero, suc, ◌+◌, ◌<◌, ◌≤◌, cond, List, length, get_or, set, replicate, sym, refl, ap, ◌∙◌, subst, inl, inr, arith}
+use Rattle.std.proofs.Common.{◌≡◌, ℕ, zero, suc, ◌+◌, ◌<◌, ◌≤◌, cond, List, length, get_or, sum, take, add-one, set, replicate, sym, refl, ap, ◌∙◌, inl, inr, arith}
 use mathlib.Core.Path.{fun_ext}
-use Rattle.std.proofs.lemmas.List.{get_or-set_same, get_or-set_other, get_or-replicate, get_or_past, length-replicate}
+use Rattle.std.proofs.lemmas.List.{get_or-set_same, get_or-set_other, get_or-replicate, get_or_past, length-replicate, take_all}
+use Rattle.std.proofs.lemmas.List.Sums.{sum_by_more}
 use Rattle.std.proofs.lemmas.Bool.{cases_eq, cases_lt, eq-eqb, ne_eqb}
 use Rattle.places.specs.Bags.{Bag, empty}
 use Rattle.places.specs.Sets.{everywhere, tokens_below, size}
-use Rattle.places.specs.Laws.{tokens_empty, tokens_sum}
+use Rattle.places.specs.Laws.{tokens_empty, tokens_more, tokens_sum}
 use Rattle.places.specs.Tables.{counted}
 use Rattle.charts.specs.Rows.{weighted, with_weight}
 
@@ -21,14 +22,19 @@ no_marking p = ap (λ (m : Bag). m p) no_weights
 pub nothing_weighs : size (counted (replicate 16 0)) ≡ 0
 nothing_weighs = ap size no_weights ∙ tokens_empty 16 everywhere
 
--- fewer places have no more tokens
-pub tokens_front : (k n : ℕ) (m : Bag) → k ≤ n → tokens_below k everywhere m ≤ tokens_below n everywhere m
+-- the tokens of a table of counts are the sum of its counts
+front_sum : (l : List ℕ) (k : ℕ) → k ≤ length l → tokens_below k everywhere (counted l) ≡ sum (take k l)
 unfolding tokens_below
-tokens_front k zero m l = let e : k ≡ 0 = omega arith in subst (λ j. tokens_below j everywhere m ≤ 0) (sym e) (omega arith)
-tokens_front k (suc n) m l = elim (cases_eq k (suc n)) [
-  | inl e ↦ subst (λ j. tokens_below j everywhere m ≤ tokens_below (suc n) everywhere m) (sym e) (omega arith)
-  | inr other ↦ omega (arith, tokens_front k n m (omega arith))
-]
+front_sum l zero h = refl
+front_sum l (suc k) h =
+    ap (λ n. tokens_below n everywhere (counted l)) (sym (add-one k)) ∙
+    tokens_more k everywhere (counted l) ∙
+    ap (λ n. n + get_or l k 0) (front_sum l k (omega arith)) ∙
+    sym (sum_by_more (λ x. x) l k 0 (omega arith)) ∙
+    ap (λ n. sum (take n l)) (add-one k)
+
+pub counts_sum : (l : List ℕ) → length l ≡ 16 → size (counted l) ≡ sum l
+counts_sum l e = front_sum l 16 (omega arith) ∙ ap sum (take_all 16 l (omega arith))
 
 weighted_same : (a w : ℕ) → weighted a w a ≡ w
 weighted_same a w = ap (λ b. cond b w 0) (eq-eqb a a refl)

@@ -1,5 +1,6 @@
 -- The laws of rows and charts that the crates above use. Assumes nothing.
-use Rattle.std.specs.Prelude.{◌≡◌, ℕ, zero, suc, ◌^◌, ◌<◌, ◌≤◌, true, false, not, ◌&&◌, ◌||◌, List, [], ◌∷◌, length, take, ◌==◌, nat_lt, refl}
+use Rattle.std.specs.Prelude.{◌≡◌, ℕ, zero, suc, ◌+◌, ◌^◌, ◌<◌, ◌≤◌, Bool, true, false, not, ◌&&◌, ◌||◌, List, [], ◌∷◌, length, take, ◌==◌, nat_lt, refl}
+use Rattle.std.specs.List.{list_all, range_with_len}
 use Rattle.std.proofs.Common.{sym, ap, subst, ◌∙◌, arith, lit<}
 use Rattle.std.proofs.Math.Logic.{inl, inr}
 use Rattle.std.proofs.lemmas.List.{get_or_past, get_or-take, length-take-le}
@@ -40,19 +41,23 @@ row_low : (r : ChartRow) → Low (row_view r)
 unfolding Low
 row_low r p l = (get_or_past r.inputs.counts p 0 (omega (arith, r.inputs.whole)), (get_or_past r.outputs.counts p 0 (omega (arith, r.outputs.whole)), set_placed r.inhibitors p l))
 
+-- a test that passes at each number of a range passes at a number in it
+each_in_range : (f : ℕ → Bool) (a n p : ℕ) → list_all f (range_with_len a n) ≡ true → a ≤ p → p < a + n → f p ≡ true
+each_in_range f a zero p e low high = absurd (omega arith)
+each_in_range f a (suc n) p e low high =
+    let both = and_parts (f a) (list_all f (range_with_len (a + 1) n)) e in
+    elim (cases_eq p a) [
+      | inl same ↦ ap f same ∙ both.0
+      | inr other ↦ each_in_range f (a + 1) n p both.1 (omega arith) (omega arith)
+    ]
+
 -- a row that is empty from P on has nothing at such a place
 empty_there : (P k p : ℕ) (r : RowView) → empty_from P k r ≡ true → P ≤ p → p < k → empty_at r p ≡ true
 unfolding empty_from
-empty_there P zero p r e g l = absurd (omega arith)
-empty_there P (suc k) p r e g l =
-    let h = and_parts (empty_from P k r) (nat_lt k P || empty_at r k) e in
-    elim (cases_eq p k) [
-      | inl same ↦ elim (or_cases (nat_lt k P) (empty_at r k) h.1) [
-        | inl low ↦ absurd (omega (arith, ltb-true k P low))
-        | inr there ↦ ap (empty_at r) same ∙ there
-      ]
-      | inr other ↦ empty_there P k p r h.0 g (omega arith)
-    ]
+empty_there P k p r e g l = elim (or_cases (nat_lt p P) (empty_at r p) (each_in_range (λ q. nat_lt q P || empty_at r q) 0 k p e (omega arith) (omega arith))) [
+  | inl low ↦ absurd (omega (arith, ltb-true p P low))
+  | inr there ↦ there
+]
 
 module _ (c : Chart) where
   abbrev names : List ℕ

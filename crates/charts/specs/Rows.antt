@@ -1,5 +1,6 @@
 -- What a row means, and what adding to it does. Assumes nothing.
-use Rattle.std.specs.Prelude.{ℕ, zero, suc, ◌+◌, Bool, true, cond, not, ◌&&◌, ◌||◌, Ok, Err, Result, ◌==◌, nat_le, nat_lt}
+use Rattle.std.specs.Prelude.{ℕ, ◌+◌, Bool, cond, not, ◌&&◌, ◌||◌, Ok, Err, Result, ◌==◌, nat_le, nat_lt}
+use Rattle.std.specs.List.{list_all, range_with_len}
 use Rattle.places.specs.Bags.{Bag, empty, ◌⊕◌}
 use Rattle.places.specs.Sets.{Subset, nowhere, size, with_place}
 use Rattle.places.specs.Tables.{counted}
@@ -52,8 +53,7 @@ empty_at r p = r.inputs p == 0 && (r.outputs p == 0 && not (r.inhibitors p))
 
 -- whether the row is empty at the places from P on that are below k
 unfoldable pub empty_from : ℕ → ℕ → RowView → Bool
-empty_from P zero r = true
-empty_from P (suc k) r = empty_from P k r && (nat_lt k P || empty_at r k)
+empty_from P k r = list_all (λ p. nat_lt p P || empty_at r p) (range_with_len 0 k)
 
 -- whether the row has weights and inhibitors only at places below P
 abbrev pub declared_only : ℕ → RowView → Bool

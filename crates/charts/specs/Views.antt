@@ -6,7 +6,8 @@ use Rattle.places.specs.Sets.{size}
 use Rattle.nets.specs.Meaning.{Meaning, least_output}
 use Rattle.charts.specs.Naming.{has_name}
 use Rattle.charts.specs.Rows.{RowView, empty_row, declared_only}
-use Rattle.charts.specs.declared.refusals.Role.TheVariants.{Input, Output}
+use Rattle.nets.specs.declared.role.Role.{Role}
+use Rattle.nets.specs.declared.role.Role.TheVariants.{Input, Output}
 use Rattle.charts.specs.declared.refusals.ChartRefusal.{ChartRefusal}
 use Rattle.charts.specs.declared.refusals.ChartRefusal.TheVariants.{Marking, DeclaredAgain, NotDeclared, TooManyPlaces, TooManyTokens, TooManyTransitions, Sum}
 
@@ -106,6 +107,15 @@ with_open v name label = record { places = v.places; transitions = v.transitions
 -- the chart with another row of the open transition
 abbrev pub with_row : View → RowView → View
 with_row v row = record { places = v.places; transitions = v.transitions; opened = option_map (λ (e : TransitionEntry). record { name = e.name; label = e.label; row = row }) v.opened }
+
+-- the weights of a row in a role
+abbrev pub row_weights : RowView → Role → Bag
+row_weights row Input = row.inputs
+row_weights row Output = row.outputs
+
+-- the answer where the weights of a row in a role are to be enough: they add up to at least 1
+abbrev pub sum_checked_as : Role → RowView → Result (Unit {0}) ChartRefusal
+sum_checked_as role row = cond (nat_le 1 (size (row_weights row role))) (Ok tt) (Err (Sum role))
 
 -- the answer where a row is to be closed over P places as the transition t: t; or the first of these that does not
 -- hold: all its places are declared, its inputs add up to at least 1, and its outputs to at least the least sum

@@ -12,5 +12,6 @@ mod row_table;
 mod weights;
 
 pub use chart::Chart;
-pub use refusals::{ChartRefusal, Role, RowRefusal};
+pub use nets::Role;
+pub use refusals::{ChartRefusal, RowRefusal};
 pub use row::ChartRow;

@@ -2,8 +2,10 @@
 ghost use Rattle.std.specs.Prelude.{◌≡◌};
 ghost use Rattle.charts.specs.Refusals.{chart_number, row_number};
 
+use nets::Role;
+
 /// Why nothing is added to a row.
-#[derive(Clone, Copy)]
+#[derive(Clone, Copy, Debug, PartialEq, Eq)]
 pub enum RowRefusal {
     /// 3: the weight is not 1 to 4.
     Weight,
@@ -23,21 +25,13 @@ impl RowRefusal {
         match self {
             RowRefusal::Weight => 3,
             RowRefusal::NoSuchPlace => 5,
-            RowRefusal::Repeated => 7,
-            RowRefusal::TooHeavy => 7,
+            RowRefusal::Repeated | RowRefusal::TooHeavy => 7,
         }
     }
 }
 
-/// A role that has weights.
-#[derive(Clone, Copy)]
-pub enum Role {
-    Input,
-    Output,
-}
-
 /// Why a chart is not changed.
-#[derive(Clone, Copy)]
+#[derive(Clone, Copy, Debug, PartialEq, Eq)]
 pub enum ChartRefusal {
     /// 3: the marking is above 64.
     Marking,

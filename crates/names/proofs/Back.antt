@@ -1,7 +1,8 @@
 -- From a number back to the name that is packed into it.
-use Rattle.std.proofs.Common.{◌≡◌, ℕ, zero, suc, ◌+◌, ◌-◌, ◌*◌, ◌/◌, ◌%◌, ◌^◌, ◌<◌, ◌≤◌, true, cond, ◌&&◌, ◌||◌, eqb, leb, List, [], ◌∷◌, ◌++◌, length, take, drop, replicate, sym, refl, ap, ◌∙◌, subst, inl, inr, mod-lt, mod-eq_of_lt, div-one, arith, lit<}
+use Rattle.std.proofs.Common.{◌≡◌, ℕ, zero, suc, ◌+◌, ◌-◌, ◌*◌, ◌/◌, ◌%◌, ◌^◌, ◌<◌, ◌≤◌, true, cond, not, ◌&&◌, ◌||◌, eqb, leb, List, [], ◌∷◌, ◌++◌, length, take, drop, replicate, sym, refl, ap, ◌∙◌, subst, inl, inr, mod-lt, mod-eq_of_lt, div-one, one-add, arith, lit<}
 use native.Mathlib.Nat.{zero-div, zero-mod, pow-succ'}
 use lib.Arith.{digits_lt, digits_div, digits_mod, mod-mul}
+use Rattle.std.specs.List.{prefix_len}
 use Rattle.std.proofs.lemmas.List.{take-append-le, drop-append-le, take_all, drop_all}
 use Rattle.std.proofs.lemmas.Bool.{and_parts, and_from, or_cases, leb-true, eqb-true, eq-eqb, ne_eqb}
 use Rattle.names.specs.Names.{is_letter, is_tail, all_tail, valid_name, pack_into, packed, IsName, PackedOnce}
@@ -84,12 +85,14 @@ front_zeros : (m : ℕ) → before_zero (replicate m 0) ≡ []
 front_zeros zero = refl
 front_zeros (suc m) = refl
 
+-- a byte that is not 0 stands in front of the first zero byte
+front_more : (b : ℕ) (bs : List ℕ) → (b ≡ 0 → ⊥) → before_zero (b ∷ bs) ≡ b ∷ before_zero bs
+front_more b bs n = ap (λ t. take (cond (not t) (1 + prefix_len (λ x. not (eqb x 0)) bs) 0) (b ∷ bs)) (ne_eqb b 0 n) ∙ ap (λ k. take k (b ∷ bs)) (one-add _)
+
 front_back : (bs : List ℕ) (m : ℕ) → AllSolid bs → before_zero (bs ++ replicate m 0) ≡ bs
 unfolding AllSolid Solid
 front_back [] m h = front_zeros m
-front_back (b ∷ bs) m h =
-    ap (λ t. cond t [] (b ∷ before_zero (bs ++ replicate m 0))) (ne_eqb b 0 (λ e. omega (arith, h.0.0))) ∙
-    ap (λ cs. b ∷ cs) (front_back bs m h.1)
+front_back (b ∷ bs) m h = front_more b (bs ++ replicate m 0) (λ e. omega (arith, h.0.0)) ∙ ap (λ cs. b ∷ cs) (front_back bs m h.1)
 
 -- what a name is packed into holds the name
 pub text_back : (bs : List ℕ) → valid_name bs ≡ true → text_in (packed bs) ≡ bs

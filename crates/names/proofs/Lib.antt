@@ -1,2 +1,1 @@
 pub mod Back
-mod Walks

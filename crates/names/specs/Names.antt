@@ -1,5 +1,6 @@
 -- Names, and the number that a name is packed into. Assumes nothing.
 use Rattle.std.specs.Prelude.{◌≡◌, ℕ, zero, suc, ◌+◌, ◌*◌, ◌^◌, Bool, true, false, ◌&&◌, ◌||◌, List, [], ◌∷◌, length, ◌==◌, nat_le}
+use Rattle.std.specs.List.{list_all}
 
 -- an ASCII letter: A to Z, or a to z
 abbrev pub is_letter : ℕ → Bool
@@ -11,8 +12,7 @@ is_tail b = is_letter b || ((nat_le 48 b && nat_le b 57) || b == 95)
 
 -- every byte is a letter, a digit or an underscore
 abbrev pub all_tail : List ℕ → Bool
-all_tail [] = true
-all_tail (b ∷ bs) = is_tail b && all_tail bs
+all_tail bs = list_all is_tail bs
 
 -- a name: a letter, then letters, digits or underscores, at most 8 bytes in all
 abbrev pub valid_name : List ℕ → Bool

@@ -6,26 +6,21 @@ ghost use Rattle.names.specs.Names.{is_letter, is_tail, all_tail, valid_name};
 fn starts_name(b: u8) -> bool
     ensures { result ≡ is_letter b }
 {
-    matches!(b, b'A'..=b'Z' | b'a'..=b'z')
+    b.is_ascii_alphabetic()
 }
 
 /// Whether a byte is a letter, an ASCII digit or an underscore.
 fn continues_name(b: u8) -> bool
     ensures { result ≡ is_tail b }
 {
-    starts_name(b) || matches!(b, b'0'..=b'9' | b'_')
+    b.is_ascii_alphanumeric() || b == b'_'
 }
 
 /// Whether every byte is a letter, a digit or an underscore.
 fn all_continue(bytes: &[u8]) -> bool
     ensures { result ≡ all_tail bytes.now }
 {
-    for b in bytes {
-        if !continues_name(*b) {
-            return false;
-        }
-    }
-    true
+    bytes.iter().all(|b| continues_name(*b))
 }
 
 /// Whether the bytes are a name.

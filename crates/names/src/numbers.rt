@@ -5,28 +5,13 @@ ghost use Rattle.names.specs.Numbers.{before_zero, bytes_in, text_in, is_packed}
 ghost use Rattle.names.specs.Written.{Written};
 
 use crate::letters::is_name;
+use std::array;
 
-/// The byte at a place, 0 behind the end.
-fn byte(bytes: &[u8], i: usize) -> u8
-    ensures { result ≡ slice_index bytes.now i }
-{
-    if i < bytes.len() { bytes[i] } else { 0 }
-}
-
-/// The number of the first 8 bytes.
+/// The number of the first 8 bytes, with 0 for a byte behind the end.
 fn pack_bytes(bytes: &[u8]) -> u64
     ensures { result ≡ packed bytes.now }
 {
-    u64::from_be_bytes([
-        byte(bytes, 0),
-        byte(bytes, 1),
-        byte(bytes, 2),
-        byte(bytes, 3),
-        byte(bytes, 4),
-        byte(bytes, 5),
-        byte(bytes, 6),
-        byte(bytes, 7),
-    ])
+    u64::from_be_bytes(array::from_fn(|i| bytes.get(i).copied().unwrap_or(0)))
 }
 
 /// The number that a name is packed into.
@@ -43,12 +28,7 @@ pub(crate) fn pack(bytes: &[u8]) -> u64
 fn zero_at(bytes: &[u8]) -> usize
     ensures { result ≡ length (before_zero bytes.now) }
 {
-    for (i, b) in bytes.iter().enumerate() {
-        if *b == 0 {
-            return i;
-        }
-    }
-    bytes.len()
+    bytes.iter().take_while(|b| **b != 0).count()
 }
 
 /// The bytes of a number, the highest first.

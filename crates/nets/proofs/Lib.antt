@@ -1,2 +1,3 @@
 mod Fires
 mod Copies
+mod Made

@@ -1,4 +1,5 @@
 pub mod Meaning
+pub mod Roles
 pub mod Firing
 pub mod Rows
 pub mod Copies

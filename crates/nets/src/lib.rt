@@ -5,11 +5,14 @@
 ghost use Rattle.std.specs.Prelude.{◌≡◌};
 ghost use Rattle.nets.specs.Firing.{FiringCounts};
 ghost use Rattle.nets.specs.Meaning.{Limits, Meaning};
+ghost use Rattle.nets.specs.Roles.{weights_in};
 
 mod copy;
+mod role;
 mod row;
 mod table;
 
+pub use role::Role;
 pub use row::Row;
 pub use table::Table;
 
@@ -39,6 +42,16 @@ pub trait Net {
     /// The output weight of the transition `t` at the place `p`.
     fn output(&self, t: u8, p: u8) -> u8
         ensures { result ≡ (meaning self.now).output t p };
+
+    /// The weight of the transition `t` at the place `p` in a role.
+    fn weight(&self, role: Role, t: u8, p: u8) -> u8
+        ensures { result ≡ weights_in (meaning self.now) role t p }
+    {
+        match role {
+            Role::Input => self.input(t, p),
+            Role::Output => self.output(t, p),
+        }
+    }
 
     /// Whether the place `p` inhibits the transition `t`.
     fn inhibits(&self, t: u8, p: u8) -> bool

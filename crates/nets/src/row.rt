@@ -1,5 +1,5 @@
 /// One transition of a table: its label, its weights and the places that inhibit it.
-#[derive(Clone, Copy)]
+#[derive(Clone, Copy, Debug, PartialEq, Eq)]
 pub struct Row {
     pub label: u64,
     pub inputs: [u8; 16],

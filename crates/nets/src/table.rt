@@ -4,7 +4,7 @@ ghost use Rattle.nets.specs.Rows.{InputsKept, LabelsKept, OutputsKept};
 use crate::row::Row;
 
 /// A net as a plain table.
-#[derive(Clone, Copy)]
+#[derive(Clone, Copy, Debug, PartialEq, Eq)]
 pub struct Table {
     places: u8,
     transitions: u8,

@@ -2,10 +2,10 @@ ghost use Rattle.std.specs.Prelude.{◌≡◌};
 ghost use Rattle.arc_lists.specs.Lists.{list_meaning};
 ghost use Rattle.arc_lists.specs.Meanings.{arc_list_limits, arc_list_meaning};
 
-use super::weighing::listed_weight;
+use super::weighing::{is_inhibited, listed_weight, passed};
 use super::*;
 use crate::reading;
-use nets::Net;
+use nets::{Net, Role};
 
 impl<'a> ArcList<'a> {
     /// The net of a list that passes; of any other, the net with no places and no transitions.
@@ -13,17 +13,12 @@ impl<'a> ArcList<'a> {
         ensures { arc_list_meaning result ≡ list_meaning places labels.now arcs.now }
     {
         if reading::passes(places, labels, arcs) {
-            reading::read_labels(labels);
-            ArcList {
-                places,
-                labels,
-                arcs,
-            }
+            passed(places, labels, arcs)
         } else {
             ArcList {
                 places: 0,
-                labels: &labels[..0],
-                arcs: &arcs[..0],
+                labels: &[],
+                arcs: &[],
             }
         }
     }
@@ -47,14 +42,14 @@ impl<'a> Net for ArcList<'a> {
     }
 
     fn input(&self, t: u8, p: u8) -> u8 {
-        listed_weight(self, 0, t, p)
+        listed_weight(self, Role::Input, t, p)
     }
 
     fn output(&self, t: u8, p: u8) -> u8 {
-        listed_weight(self, 1, t, p)
+        listed_weight(self, Role::Output, t, p)
     }
 
     fn inhibits(&self, t: u8, p: u8) -> bool {
-        reading::any_at(self.arcs, 2, t, p)
+        is_inhibited(self, t, p)
     }
 }

@@ -33,13 +33,9 @@ impl Chart {
         ensures result { result ≡ declared_as (chart_view self.old) (number_of name) marking }
         ensures after { chart_view self.new ≡ unless_refused result (chart_view self.old) (with_new_place (chart_view self.old) (number_of name) marking) }
     {
-        match self.places.check(name, marking) {
-            Ok(p) => {
-                self.add_place(name, marking);
-                Ok(p)
-            }
-            Err(refusal) => Err(refusal),
-        }
+        let place = self.places.check(name, marking)?;
+        self.add_place(name, marking);
+        Ok(place)
     }
 
     /// Opens a transition, whose row is empty, and gives the number that it will have; or says why not. A transition
@@ -72,12 +68,8 @@ impl Chart {
         ensures result { result ≡ closed_as (chart_view self.old) }
         ensures after { chart_view self.new ≡ unless_refused result (chart_view self.old) (with_closed (chart_view self.old)) }
     {
-        match self.check_open() {
-            Ok(t) => {
-                self.finish();
-                Ok(t)
-            }
-            Err(refusal) => Err(refusal),
-        }
+        let t = self.check_open()?;
+        self.finish();
+        Ok(t)
     }
 }

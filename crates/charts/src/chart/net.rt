@@ -22,23 +22,14 @@ impl Net for Chart {
     }
 
     fn input(&self, t: u8, p: u8) -> u8 {
-        match self.closed_row(t) {
-            Some(row) => row.input(p),
-            None => 0,
-        }
+        self.closed_row(t).map_or(0, |row| row.input(p))
     }
 
     fn output(&self, t: u8, p: u8) -> u8 {
-        match self.closed_row(t) {
-            Some(row) => row.output(p),
-            None => 0,
-        }
+        self.closed_row(t).map_or(0, |row| row.output(p))
     }
 
     fn inhibits(&self, t: u8, p: u8) -> bool {
-        match self.closed_row(t) {
-            Some(row) => row.inhibits(p),
-            None => false,
-        }
+        self.closed_row(t).is_some_and(|row| row.inhibits(p))
     }
 }

@@ -1,13 +1,10 @@
 //! Whether a row may be that of a transition.
 ghost use Rattle.std.specs.Prelude.{◌≡◌, ◌||◌, nat_lt};
 ghost use Rattle.charts.specs.Rows.{declared_only, empty_at, row_view};
-ghost use Rattle.charts.specs.Views.{row_closed_as};
+ghost use Rattle.charts.specs.Views.{row_closed_as, sum_checked_as};
 
 use super::*;
 use crate::{ChartRefusal, Role};
-
-/// The least sum of the output weights of a transition.
-const LEAST_OUTPUT: u8 = 1;
 
 impl ChartRow {
     /// Whether the row has neither a weight nor an inhibitor at a place.
@@ -25,15 +22,25 @@ impl ChartRow {
     }
 
     /// Whether the row has weights and inhibitors only at the first places.
+    #[tactic(auto, unfolding(crate::specs::Rows::empty_from))]
     fn is_declared(&self, places: u8) -> bool
         ensures { result ≡ declared_only places (row_view self.now) }
     {
-        for p in 0..16u8 {
-            if !self.is_declared_at(places, p) {
-                return false;
-            }
+        (0..16).all(|p| self.is_declared_at(places, p))
+    }
+
+    /// Whether the weights of a role add up to enough: to at least 1.
+    fn check_sum(&self, role: Role) -> Result<(), ChartRefusal>
+        ensures { result ≡ sum_checked_as role (row_view self.now) }
+    {
+        let sum = match role {
+            Role::Input => self.inputs.total(),
+            Role::Output => self.outputs.total(),
+        };
+        if sum < 1 {
+            return Err(ChartRefusal::Sum(role));
         }
-        true
+        Ok(())
     }
 
     /// Gives the number of the transition that the row is closed as, or says why it is not.
@@ -43,12 +50,8 @@ impl ChartRow {
         if !self.is_declared(places) {
             return Err(ChartRefusal::NotDeclared);
         }
-        if self.inputs.total() < 1 {
-            return Err(ChartRefusal::Sum(Role::Input));
-        }
-        if self.outputs.total() < LEAST_OUTPUT {
-            return Err(ChartRefusal::Sum(Role::Output));
-        }
+        self.check_sum(Role::Input)?;
+        self.check_sum(Role::Output)?;
         Ok(t)
     }
 }

@@ -1,4 +1,4 @@
-ghost use Rattle.std.specs.Prelude.{◌≡◌, ◌≤◌};
+ghost use Rattle.std.specs.Prelude.{◌≡◌, ◌<◌, ◌≤◌, sum};
 ghost use Rattle.places.specs.Bags.{empty};
 ghost use Rattle.places.specs.Sets.{size};
 ghost use Rattle.charts.specs.Rows.{added_as, weights_of, with_weight};
@@ -6,6 +6,14 @@ ghost use Rattle.charts.specs.Refusals.{unless_refused};
 
 use super::*;
 use crate::RowRefusal;
+
+/// The sum of some numbers.
+fn sum_of(counts: &[u8]) -> u8
+    requires { sum counts.now < 256 }
+    ensures { result ≡ sum counts.now }
+{
+    counts.iter().sum()
+}
 
 impl Weights {
     /// No weights.
@@ -19,11 +27,7 @@ impl Weights {
     pub(crate) fn at(&self, place: u8) -> u8
         ensures { result ≡ weights_of self.now place }
     {
-        if place < 16 {
-            self.counts[place as usize]
-        } else {
-            0
-        }
+        self.counts.get(place as usize).copied().unwrap_or(0)
     }
 
     /// What all weights add up to.
@@ -31,11 +35,7 @@ impl Weights {
         ensures value { result ≡ size (weights_of self.now) }
         ensures few { result ≤ 4 }
     {
-        let mut sum = 0;
-        for p in 0..16usize {
-            sum += self.counts[p];
-        }
-        sum
+        sum_of(&self.counts)
     }
 
     /// Adds a weight at a place, or says why not.
@@ -43,7 +43,7 @@ impl Weights {
         ensures result { result ≡ added_as (weights_of self.old) place weight }
         ensures after { weights_of self.new ≡ unless_refused result (weights_of self.old) (with_weight (weights_of self.old) place weight) }
     {
-        if weight == 0 || weight > 4 {
+        if !(1..=4).contains(&weight) {
             return Err(RowRefusal::Weight);
         }
         if place > 15 {

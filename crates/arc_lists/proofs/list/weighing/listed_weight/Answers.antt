@@ -1,9 +1,13 @@
-use Rattle.std.proofs.Common.{◌∙◌}
+use Rattle.std.proofs.Common.{min, ap, ◌∙◌}
 use Rattle.arc_lists.specs.Arcs.{weights}
-use Rattle.arc_lists.proofs.Steps.{weights_few, capped_is}
+use Rattle.arc_lists.specs.Links.{role_number}
+use Rattle.arc_lists.proofs.Steps.{weights_few, capped_is, role_low}
 use Rattle.arc_lists.proofs.list.weighing.listed_weight.Goals as goal
 
 pub returns : goal.returns
 returns c =
     let l = c.args.list.now in
-    c.weight_at.ensures ∙ capped_is (weights c.args.kind c.args.t c.args.p l.arcs.now) (weights_few l.places l.labels.now l.arcs.now c.args.kind c.args.t c.args.p l.passed c.requires)
+    let k = role_number c.args.role in
+    c.weight_of.ensures ∙
+    ap (λ n. min (weights n c.args.transition c.args.place l.arcs.now) 255) c.into.ensures ∙
+    capped_is (weights k c.args.transition c.args.place l.arcs.now) (weights_few l.places l.labels.now l.arcs.now k c.args.transition c.args.place l.passed (role_low c.args.role))

@@ -1,6 +1,0 @@
-use Rattle.std.proofs.Common.{sym, arith}
-use Rattle.std.proofs.lemmas.List.{get_or_past}
-use Rattle.charts.proofs.weights.Weights.at.Goals as goal
-
-pub returns-else-place-lt16 : goal.returns-else-place-lt16
-returns-else-place-lt16 c = sym (get_or_past c.args.self.now.counts c.args.place 0 (omega (arith, c.args.self.now.whole, c.if-place-lt16.false)))
