@@ -1,5 +1,9 @@
 -- Elements of lists, and the first that has no answer.
-use Rattle.std.proofs.Common.{◌≡◌, ℕ, zero, suc, ◌<◌, Bool, true, false, cond, ◌⊎◌, List, [], ◌∷◌, ◌++◌, map, Some, None, Option, sym, refl, ap, ◌∙◌, subst, inl, inr, arith}
+use Rattle.std.specs.List.{find, list_all, range_with_len}
+use Rattle.std.specs.Option.{option_or}
+use Rattle.std.proofs.Common.{◌≡◌, ℕ, zero, suc, ◌<◌, Bool, true, false, cond, ◌&&◌, ◌⊎◌, List, [], ◌∷◌, ◌++◌, map, Some, None, Option, sym, refl, ap, ◌∙◌, subst, inl, inr, arith}
+use Rattle.std.proofs.lemmas.List.Folds.{find-append, list_all-append}
+use Rattle.pairing.specs.Laws.{range_to}
 use Rattle.std.proofs.lemmas.Bool.{cases_eq, cases_Bool, cond-true, cond-false, and_parts, and_from}
 use Rattle.bisimulation.specs.Verdicts.{keep, all_below, lowest_below, open_or, first_open}
 
@@ -51,15 +55,22 @@ keep_in {X} f x (z ∷ xs) h = elim (cases_Bool (f z)) [
     kept later yes-z (inl e) = (inl e, ap f e ∙ yes-z)
     kept later yes-z (inr h) = let r = later h in (inr r.0, r.1)
 
+and_true : (b : Bool) → (b && true) ≡ b
+and_true true = refl
+and_true false = refl
+
+all_step : (f : ℕ → Bool) (k : ℕ) → all_below f (suc k) ≡ (all_below f k && f k)
+all_step f k = ap (list_all f) (range_to k) ∙ list_all-append f (range_with_len 0 k) (k ∷ []) ∙ ap (λ b. all_below f k && b) (and_true (f k))
+
 -- a test at every number below k
 pub all_from : (f : ℕ → Bool) (k : ℕ) → ((i : ℕ) → i < k → f i ≡ true) → all_below f k ≡ true
 all_from f zero h = refl
-all_from f (suc k) h = and_from (all_below f k) (f k) (all_from f k (λ i l. h i (omega arith))) (h k (omega arith))
+all_from f (suc k) h = all_step f k ∙ and_from (all_below f k) (f k) (all_from f k (λ i l. h i (omega arith))) (h k (omega arith))
 
 pub all_at : (f : ℕ → Bool) (k : ℕ) → all_below f k ≡ true → (i : ℕ) → i < k → f i ≡ true
 all_at f zero e i l = absurd (omega arith)
 all_at f (suc k) e i l =
-    let both = and_parts (all_below f k) (f k) e in
+    let both = and_parts (all_below f k) (f k) (sym (all_step f k) ∙ e) in
     elim (cases_eq i k) [ inl same ↦ ap f same ∙ both.1 | inr other ↦ all_at f k both.0 i (omega arith) ]
 
 -- the lowest number below k at which a test passes, or none
@@ -69,13 +80,13 @@ Lowest f k (Some u) = (u < k) × (f u ≡ true) × ((v : ℕ) → v < u → f v 
 
 pub lowest : (f : ℕ → Bool) (k : ℕ) → Lowest f k (lowest_below f k)
 lowest f zero = λ i l. absurd (omega arith)
-lowest f (suc k) = step (lowest_below f k) (lowest f k)
+lowest f (suc k) = subst (Lowest f (suc k)) (sym (ap (find f) (range_to k) ∙ find-append f (range_with_len 0 k) (k ∷ []))) (step (lowest_below f k) (lowest f k))
   where
     here : (b : Bool) → f k ≡ b → ((i : ℕ) → i < k → f i ≡ false) → Lowest f (suc k) (cond b (Some k) None)
     here true e h = (omega arith, e, h)
     here false e h = λ i l. elim (cases_eq i k) [ inl same ↦ ap f same ∙ e | inr other ↦ h i (omega arith) ]
 
-    step : (o : Option ℕ) → Lowest f k o → Lowest f (suc k) (elim o [ Some u ↦ Some u | None ↦ cond (f k) (Some k) None ])
+    step : (o : Option ℕ) → Lowest f k o → Lowest f (suc k) (option_or o (cond (f k) (Some k) None))
     step (Some u) h = (omega (arith, h.0), h.1, h.2)
     step None h = here (f k) refl h
 

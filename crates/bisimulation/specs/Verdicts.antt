@@ -1,5 +1,6 @@
 -- The verdict, computed: all obligations in order, the answer to each, and the first that has none. Assumes nothing.
 use Rattle.std.specs.Prelude.{ℕ, zero, suc, Bool, true, false, cond, not, ◌&&◌, ◌||◌, List, [], ◌∷◌, ◌++◌, map, length, Some, None, Option, ◌==◌, nat_lt}
+use Rattle.std.specs.List.{find, list_all, range_with_len}
 use Rattle.places.specs.Sets.{PlaceRelation, turned}
 use Rattle.places.specs.declared.Side.{Side}
 use Rattle.places.specs.declared.Side.TheVariants.{Left, Right}
@@ -16,13 +17,11 @@ keep f (x ∷ xs) = cond (f x) (x ∷ keep f xs) (keep f xs)
 
 -- whether a test passes at every number below k
 abbrev pub all_below : (ℕ → Bool) → ℕ → Bool
-all_below f zero = true
-all_below f (suc k) = all_below f k && f k
+all_below f k = list_all f (range_with_len 0 k)
 
 -- the lowest number below k at which a test passes
 abbrev pub lowest_below : (ℕ → Bool) → ℕ → Option ℕ
-lowest_below f zero = None
-lowest_below f (suc k) = elim (lowest_below f k) [ Some u ↦ Some u | None ↦ cond (f k) (Some k) None ]
+lowest_below f k = find f (range_with_len 0 k)
 
 -- what a transition takes and what it gives, as ascending lists
 abbrev pub takes : Meaning → ℕ → List ℕ

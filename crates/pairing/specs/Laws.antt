@@ -1,7 +1,9 @@
 -- The laws of the closure, and of tests below a number, that the crates above use. Assumes nothing.
-use Rattle.std.specs.Prelude.{◌≡◌, ℕ, zero, suc, ◌<◌, Bool, true, false, T, refl}
+use Rattle.std.specs.Prelude.{◌≡◌, ℕ, zero, suc, ◌+◌, ◌<◌, Bool, true, false, ◌||◌, T, [], ◌∷◌, ◌++◌, refl}
+use Rattle.std.specs.List.{list_any, range_with_len}
 use Rattle.std.proofs.Common.{sym, ap, ◌∙◌, subst, subst₂, inl, inr, arith}
 use Rattle.std.proofs.Math.Path.{fun_ext}
+use Rattle.std.proofs.lemmas.List.Folds.{list_any-append}
 use Rattle.std.proofs.lemmas.Bool.{cases_eq, or_left, or_right, or_cases, false≢true}
 use Rattle.places.specs.Bags.{Bag, empty, single, ◌⊕◌, ◌⊖◌, ◌⊆◌}
 use Rattle.places.specs.Sets.{PlaceRelation, turned}
@@ -101,17 +103,41 @@ pub of_T : (b : Bool) → T b → b ≡ true
 of_T true t = refl
 of_T false t = absurd t
 
+-- the numbers below k and one more
+plus_zero : (n : ℕ) → n ≡ n + 0
+plus_zero n = omega arith
+
+plus_more : (a n : ℕ) → a + 1 + n ≡ a + suc n
+plus_more a n = omega arith
+
+range_more : (a n : ℕ) → range_with_len a (suc n) ≡ range_with_len a n ++ (a + n) ∷ []
+range_more a zero = ap (λ k. k ∷ []) (plus_zero a)
+range_more a (suc n) = ap (λ ks. a ∷ ks) (range_more (a + 1) n ∙ ap (λ k. range_with_len (a + 1) n ++ k ∷ []) (plus_more a n))
+
+zero_plus : (n : ℕ) → 0 + n ≡ n
+zero_plus n = omega arith
+
+pub range_to : (n : ℕ) → range_with_len 0 (suc n) ≡ range_with_len 0 n ++ n ∷ []
+range_to n = range_more 0 n ∙ ap (λ k. range_with_len 0 n ++ k ∷ []) (zero_plus n)
+
+or_false : (b : Bool) → (b || false) ≡ b
+or_false true = refl
+or_false false = refl
+
+some_step : (f : ℕ → Bool) (k : ℕ) → some_below f (suc k) ≡ (some_below f k || f k)
+some_step f k = ap (list_any f) (range_to k) ∙ list_any-append f (range_with_len 0 k) (k ∷ []) ∙ ap (λ b. some_below f k || b) (or_false (f k))
+
 -- a test that passes at a number below k, and the number
 pub some_from : (f : ℕ → Bool) (k i : ℕ) → i < k → f i ≡ true → some_below f k ≡ true
 some_from f zero i l e = absurd (omega arith)
-some_from f (suc k) i l e = elim (cases_eq i k) [
+some_from f (suc k) i l e = some_step f k ∙ elim (cases_eq i k) [
   | inl p ↦ or_right (some_below f k) (f k) (ap f (sym p) ∙ e)
   | inr n ↦ or_left (some_below f k) (f k) (some_from f k i (omega arith) e)
 ]
 
 pub some_is : (f : ℕ → Bool) (k : ℕ) → some_below f k ≡ true → (i : ℕ) × ((i < k) × (f i ≡ true))
 some_is f zero e = absurd (false≢true e)
-some_is f (suc k) e = elim (or_cases (some_below f k) (f k) e) [
+some_is f (suc k) e = elim (or_cases (some_below f k) (f k) (sym (some_step f k) ∙ e)) [
   | inl h ↦ (let r = some_is f k h in (r.0, (omega arith, r.1.1)))
   | inr h ↦ (k, (omega arith, h))
 ]

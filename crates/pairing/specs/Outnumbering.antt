@@ -1,13 +1,13 @@
 -- Sets of places whose tokens outnumber all tokens on the related places of the other side. Assumes nothing.
-use Rattle.std.specs.Prelude.{ℕ, zero, suc, ◌<◌, Bool, false, ◌&&◌, ◌||◌}
+use Rattle.std.specs.Prelude.{ℕ, ◌<◌, Bool, ◌&&◌}
+use Rattle.std.specs.List.{list_any, range_with_len}
 use Rattle.places.specs.Bags.{Bag}
 use Rattle.places.specs.Sets.{Subset, PlaceRelation, turned, tokens_on, Placed}
 use Rattle.pairing.specs.Closure.{Closure}
 
 -- whether the test passes at a number below k
 abbrev pub some_below : (ℕ → Bool) → ℕ → Bool
-some_below f zero = false
-some_below f (suc k) = some_below f k || f k
+some_below f k = list_any f (range_with_len 0 k)
 
 -- the right places that are related to a place of the set
 abbrev pub beside : PlaceRelation → Subset → Subset

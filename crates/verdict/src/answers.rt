@@ -22,12 +22,7 @@ fn blocks(net: &Table, t: u8, p: u8) -> bool
 pub(crate) fn is_blocked(net: &Table, t: u8) -> bool
     ensures { result ≡ self_blocked (table_meaning net.now) t }
 {
-    for p in 0..net.places() {
-        if blocks(net, t, p) {
-            return true;
-        }
-    }
-    false
+    (0..net.places()).any(|p| blocks(net, t, p))
 }
 
 /// Whether two places that are related both inhibit, or neither does.
@@ -41,24 +36,14 @@ fn alike_at(mover: &Table, other: &Table, pairs: &Pairs, t: u8, u: u8, p: u8, q:
 fn row_alike(mover: &Table, other: &Table, pairs: &Pairs, t: u8, u: u8, p: u8) -> bool
     ensures { result ≡ all_below (λ q. not (pairs_of pairs.now p q) || same_truth ((table_meaning mover.now).inhibits t p) ((table_meaning other.now).inhibits u q)) (table_meaning other.now).places }
 {
-    for q in 0..other.places() {
-        if !alike_at(mover, other, pairs, t, u, p, q) {
-            return false;
-        }
-    }
-    true
+    (0..other.places()).all(|q| alike_at(mover, other, pairs, t, u, p, q))
 }
 
 /// Whether the inhibitors of two transitions are alike.
 fn is_alike(mover: &Table, other: &Table, pairs: &Pairs, t: u8, u: u8) -> bool
     ensures { result ≡ alike (table_meaning mover.now) (table_meaning other.now) (pairs_of pairs.now) t u }
 {
-    for p in 0..mover.places() {
-        if !row_alike(mover, other, pairs, t, u, p) {
-            return false;
-        }
-    }
-    true
+    (0..mover.places()).all(|p| row_alike(mover, other, pairs, t, u, p))
 }
 
 /// Whether two lists are the same.
@@ -87,10 +72,5 @@ pub(crate) fn find_answer(job: &Job, ys: &[u8]) -> Option<u8>
     requires { Ready job.now }
     ensures { result ≡ lowest_below (answers (mover_of job.now) (other_of job.now) (related_by job.now) job.now.t ys.now) (other_of job.now).transitions }
 {
-    for u in 0..job.other.transitions() {
-        if answers_with(job, ys, u) {
-            return Some(u);
-        }
-    }
-    None
+    (0..job.other.transitions()).find(|u| answers_with(job, ys, *u))
 }
