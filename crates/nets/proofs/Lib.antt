@@ -1,3 +1,2 @@
 mod Fires
 mod Copies
-mod Made

@@ -4,3 +4,4 @@ pub mod Firing
 pub mod Rows
 pub mod Copies
 pub mod Tables
+pub mod Made

@@ -1,20 +1,15 @@
 -- What a transition takes or gives, as a list.
-use Rattle.std.proofs.Common.{◌≡◌, ℕ, zero, suc, ◌+◌, ◌-◌, ◌<◌, ◌≤◌, List, [], ◌∷◌, ◌++◌, length, get_or, set, replicate, sym, refl, ap, ◌∙◌, subst, inl, inr, append_assoc, append-nil, add-one, arith, length-append}
+use Rattle.std.proofs.Common.{◌≡◌, ℕ, zero, suc, ◌+◌, ◌-◌, ◌<◌, ◌≤◌, List, [], ◌∷◌, ◌++◌, length, sym, refl, ap, ◌∙◌, inl, inr, append_assoc, append-nil, add-one, arith, length-append}
 use mathlib.Core.Path.{fun_ext}
-use Rattle.std.proofs.lemmas.List.{get_or-set_same, get_or-set_other, length-set}
-use Rattle.std.proofs.lemmas.Bool.{cases_eq, cases_lt}
+use Rattle.std.proofs.lemmas.Bool.{cases_lt}
 use Rattle.places.specs.Bags.{Bag}
 use Rattle.places.specs.Sets.{everywhere, tokens_below, size}
 use Rattle.places.specs.Laws.{tokens_empty}
 use Rattle.nets.specs.Meaning.{Meaning, Limits}
 use Rattle.bisimulation.specs.Lists.{pile, list_from, list_of}
-use Rattle.bisimulation.specs.Verdicts.{takes, gives}
-use Rattle.verdict.specs.Search.{flow, flow_list, Outlined}
-use Rattle.verdict.specs.ShortLists.{listed}
-use Rattle.verdict.specs.declared.short_list.ShortList.{ShortList}
-use Rattle.verdict.specs.declared.outline.Role.{Role}
-use Rattle.verdict.specs.declared.outline.Role.TheVariants.{Takes, Gives}
-use Rattle.verdict.specs.declared.outline.Outline.{Outline}
+use Rattle.nets.specs.Roles.{weights_in}
+use Rattle.nets.specs.declared.role.Role.{Role}
+use Rattle.nets.specs.declared.role.Role.TheVariants.{Input, Output}
 
 pile_front : (k x : ℕ) (zs : List ℕ) → pile k x (x ∷ zs) ≡ x ∷ pile k x zs
 unfolding pile
@@ -84,22 +79,18 @@ list_short places m l = omega (arith, list_length places 0 m, below_size (16 - p
     none : (n : ℕ) → 0 + n ≡ n
     none n = omega arith
 
-small : (n : Meaning) (role : Role) (t : ℕ) → Limits n → size (flow n role t) ≤ 4
-small n Takes t lim = elim (cases_lt t n.transitions) [
+small : (n : Meaning) (role : Role) (t : ℕ) → Limits n → size (weights_in n role t) ≤ 4
+small n Input t lim = elim (cases_lt t n.transitions) [
   | inl l ↦ lim.few_inputs t l
   | inr g ↦ omega (arith, ap size (fun_ext (λ p. lim.no_transition_input t p g)), tokens_empty 16 everywhere)
 ]
-small n Gives t lim = elim (cases_lt t n.transitions) [
+small n Output t lim = elim (cases_lt t n.transitions) [
   | inl l ↦ lim.few_outputs t l
   | inr g ↦ omega (arith, ap size (fun_ext (λ p. lim.no_transition_output t p g)), tokens_empty 16 everywhere)
 ]
 
-pub flow_is : (n : Meaning) (role : Role) (t : ℕ) → flow_list n role t ≡ list_of n.places (flow n role t)
-flow_is n Takes t = refl
-flow_is n Gives t = refl
-
-pub flow_short : (n : Meaning) (role : Role) (t : ℕ) → Limits n → length (list_of n.places (flow n role t)) ≤ 4
-flow_short n role t lim = omega (arith, list_short n.places (flow n role t) lim.few_places, small n role t lim)
+pub flow_short : (n : Meaning) (role : Role) (t : ℕ) → Limits n → length (list_of n.places (weights_in n role t)) ≤ 4
+flow_short n role t lim = omega (arith, list_short n.places (weights_in n role t) lim.few_places, small n role t lim)
 
 -- the places below p are in the list, and the others are to come
 pub record ListedTo (m : Bag) (places p : ℕ) (xs : List ℕ) : Type 0 where
@@ -141,30 +132,3 @@ listed_all {m} {places} {p} {xs} l h = sym (h.are ∙ ap (λ n. xs ++ list_from 
   where
     nothing : (a b : ℕ) → a ≤ b → a - b ≡ 0
     nothing a b g = omega arith
-
--- the lists of the transitions below k
-pub record OutlinedTo (n : Meaning) (k : ℕ) (ins outs : List ShortList) : Type 0 where
-  pub long_takes : length ins ≡ 32
-  pub long_gives : length outs ≡ 32
-  pub takes_to : (t : ℕ) → t < k → (d : ShortList) → listed (get_or ins t d) ≡ takes n t
-  pub gives_to : (t : ℕ) → t < k → (d : ShortList) → listed (get_or outs t d) ≡ gives n t
-
-pub outlined_none : {n : Meaning} (a b : ShortList) → OutlinedTo n 0 (replicate 32 a) (replicate 32 b)
-outlined_none a b = record { long_takes = refl; long_gives = refl; takes_to = λ t l. absurd (omega arith); gives_to = λ t l. absurd (omega arith) }
-
-write : (f : ℕ → List ℕ) (xs : List ShortList) (k : ℕ) (v : ShortList) → k < length xs → ((t : ℕ) → t < k → (d : ShortList) → listed (get_or xs t d) ≡ f t) → listed v ≡ f k → (t : ℕ) → t < k + 1 → (d : ShortList) → listed (get_or (set xs k v) t d) ≡ f t
-write f xs k v l below here t less d = elim (cases_eq t k) [
-  | inl e ↦ subst (λ j. listed (get_or (set xs k v) j d) ≡ f j) (sym e) (ap listed (get_or-set_same xs k v d l) ∙ here)
-  | inr n ↦ ap listed (get_or-set_other xs k t v d n) ∙ below t (omega arith) d
-]
-
-pub outlined_more : {n : Meaning} {k : ℕ} {ins outs : List ShortList} (a b : ShortList) → k < 32 → listed a ≡ takes n k → listed b ≡ gives n k → OutlinedTo n k ins outs → OutlinedTo n (k + 1) (set ins k a) (set outs k b)
-outlined_more {n} {k} {ins} {outs} a b l ea eb h = record {
-  long_takes = length-set ins k a ∙ h.long_takes;
-  long_gives = length-set outs k b ∙ h.long_gives;
-  takes_to = write (takes n) ins k a (omega (arith, h.long_takes)) h.takes_to ea;
-  gives_to = write (gives n) outs k b (omega (arith, h.long_gives)) h.gives_to eb;
-}
-
-pub outlined_all : {n : Meaning} {k : ℕ} (o : Outline) → 32 ≤ k → OutlinedTo n k o.takes o.gives → Outlined n o
-outlined_all o l h = record { long_takes = h.long_takes; long_gives = h.long_gives; takes_listed = λ t less. h.takes_to t (omega arith); gives_listed = λ t less. h.gives_to t (omega arith) }

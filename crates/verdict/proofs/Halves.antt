@@ -1,16 +1,17 @@
 -- The obligations of one side.
-use Rattle.std.proofs.Common.{◌≡◌, ℕ, zero, suc, ◌+◌, ◌*◌, ◌^◌, ◌<◌, ◌≤◌, Bool, true, false, not, ◌&&◌, T, ltb, List, [], ◌∷◌, ◌++◌, map, length, take, Some, None, Ok, Err, Option, sym, refl, ap, ◌∙◌, subst, inl, inr, pow-suc, add-one, arith, length-append, pow_mono}
+use Rattle.std.proofs.Common.{◌≡◌, ℕ, zero, suc, ◌+◌, ◌*◌, ◌^◌, ◌<◌, ◌≤◌, Bool, true, false, cond, not, ◌&&◌, T, ltb, List, [], ◌∷◌, ◌++◌, map, length, Some, None, Ok, Err, Option, Result, sym, refl, ap, ◌∙◌, subst, inl, inr, pow-suc, add-one, arith, length-append, pow_mono}
 use Rattle.std.proofs.lemmas.List.{length-map}
 use Rattle.std.proofs.lemmas.Bool.{cases_eq, cond-false, and_left, and_right, and_from, lt-ltb, not_from_true, not_from_false}
 use Rattle.places.specs.Sets.{PlaceRelation}
 use Rattle.places.specs.declared.Side.{Side}
 use Rattle.nets.specs.Meaning.{Meaning}
 use Rattle.bisimulation.specs.Lists.{is_nil, related_lists, lists_from, lists}
-use Rattle.bisimulation.specs.Verdicts.{keep, takes, self_blocked, obliges, answer_for, bags_for, ObligationAt, obligations_below, open_or, first_open}
+use Rattle.bisimulation.specs.Verdicts.{keep, takes, self_blocked, obliges, answers, lowest_below, answer_for, bags_for, ObligationAt, obligations_below, open_or, first_open}
 use Rattle.verdict.specs.Results.{obligation_at, at, JudgedBelow}
-use Rattle.verdict.specs.Search.{bags_after, Passed}
+use Rattle.verdict.specs.Search.{bags_after, bags_of, mover_of, other_of, related_by, Passed, JudgedFor}
+use Rattle.verdict.specs.declared.job.Job.{Job}
 use Rattle.verdict.specs.declared.obligation.Obligation.{Obligation}
-use Rattle.verdict.proofs.Walks.{first_append, bags_length, or_else}
+use Rattle.verdict.proofs.Walks.{first_append, answer_is, bags_length, or_else}
 
 -- the obligations of a transition, by the bags
 abbrev maybe : {X Y : Type 0} → (X → Y) → Option X → Option Y
@@ -34,18 +35,35 @@ all_bags mover other R t size d e h = ap (λ ls. keep (obliges mover R t) ls) (i
     itself [] = refl
     itself (l ∷ ls) = ap (λ vs. l ∷ vs) (itself ls)
 
-pub judged_some : (side : Side) (mover other : Meaning) (R : PlaceRelation) (t size d before count : ℕ) (chosen : List ℕ) → size ≡ length (takes mover t) → d ≡ other.places → Passed (answer_for mover other R t) (0 + size) before (bags_after mover R t [] d 0 size) chosen (Some count) → JudgedBelow side mover other R before (map (at side t) (bags_for mover other R t)) (Ok count)
-judged_some side mover other R t size d before count chosen e h p f agrees =
-    let bags = all_bags mover other R t size d e h in (
-      first_mapped f (answer_for mover other R t) (at side t) (agrees t) (bags_for mover other R t) ∙ ap (λ bs. maybe (at side t) (first_open (answer_for mover other R t) bs)) (sym bags) ∙ ap (maybe (at side t)) p.0,
-      omega (arith, p.1, ap length bags, length-map (bags_for mover other R t) (at side t)),
-    )
+-- two ways to answer that agree where there is an obligation
+same_open : {X : Type 0} (f g : X → Option ℕ) (p : X → Bool) → ((x : X) → p x ≡ true → g x ≡ f x) → (xs : List X) → first_open g (keep p xs) ≡ first_open f (keep p xs)
+same_open f g p agrees [] = refl
+same_open {X} f g p agrees (x ∷ xs) = go (p x) refl (same_open f g p agrees xs)
+  where
+    go : (b : Bool) → p x ≡ b → first_open g (keep p xs) ≡ first_open f (keep p xs) → first_open g (cond b (x ∷ keep p xs) (keep p xs)) ≡ first_open f (cond b (x ∷ keep p xs) (keep p xs))
+    go true e rest = ap (λ v. open_or v x (first_open g (keep p xs))) (agrees x e) ∙ ap (open_or (f x) x) rest
+    go false e rest = rest
 
-pub judged_none : (side : Side) (mover other : Meaning) (R : PlaceRelation) (t size d before : ℕ) (chosen : List ℕ) (o : Obligation) → size ≡ length (takes mover t) → d ≡ other.places → obligation_at o ≡ at side t (take size chosen) → Passed (answer_for mover other R t) (0 + size) before (bags_after mover R t [] d 0 size) chosen None → JudgedBelow side mover other R before (map (at side t) (bags_for mover other R t)) (Err o)
-judged_none side mover other R t size d before chosen o e h shows p f agrees =
-    let bags = all_bags mover other R t size d e h in
-    let none : 0 + size ≡ size = omega arith in
-    first_mapped f (answer_for mover other R t) (at side t) (agrees t) (bags_for mover other R t) ∙ ap (λ bs. maybe (at side t) (first_open (answer_for mover other R t) bs)) (sym bags) ∙ ap (maybe (at side t)) p ∙ ap (λ n. Some (at side t (take n chosen))) none ∙ ap Some (sym shows)
+-- the answers of a job, by its lowest answering transition
+abbrev pub lowest_for : Job → List ℕ → Option ℕ
+lowest_for j ys = lowest_below (answers (mover_of j) (other_of j) (related_by j) j.t ys) (other_of j).transitions
+
+abbrev pub answers_for : Job → List ℕ → Option ℕ
+answers_for j ys = answer_for (mover_of j) (other_of j) (related_by j) j.t ys
+
+open_for : (j : Job) (size d : ℕ) (f : ObligationAt → Option ℕ) → ((t : ℕ) (ys : List ℕ) → f (at j.half.now.side t ys) ≡ answer_for (mover_of j) (other_of j) (related_by j) t ys) → size ≡ length (takes (mover_of j) j.t) → d ≡ (other_of j).places → first_open f (map (at j.half.now.side j.t) (bags_of j.half.now j.t)) ≡ maybe (at j.half.now.side j.t) (first_open (lowest_for j) (bags_after (mover_of j) (related_by j) j.t [] d 0 size))
+open_for j size d f agrees e h =
+    first_mapped f (answers_for j) (at j.half.now.side j.t) (agrees j.t) (bags_of j.half.now j.t)
+    ∙ ap (λ bs. maybe (at j.half.now.side j.t) (first_open (answers_for j) bs)) (sym (all_bags (mover_of j) (other_of j) (related_by j) j.t size d e h))
+    ∙ ap (maybe (at j.half.now.side j.t)) (same_open (lowest_for j) (answers_for j) (obliges (mover_of j) (related_by j) j.t) (λ ys known. answer_is (mover_of j) (other_of j) (related_by j) j.t ys (lowest_for j ys) known refl) (map (λ zs. [] ++ zs) (lists_from d 0 size)))
+
+pub judged_by : (j : Job) (size d before : ℕ) (r : Result ℕ Obligation) → size ≡ length (takes (mover_of j) j.t) → d ≡ (other_of j).places → Passed j (lowest_for j) before (bags_after (mover_of j) (related_by j) j.t [] d 0 size) r → JudgedFor j.half.now before (map (at j.half.now.side j.t) (bags_of j.half.now j.t)) r
+judged_by j size d before (Ok count) e h p f agrees =
+    let bags = all_bags (mover_of j) (other_of j) (related_by j) j.t size d e h in (
+      open_for j size d f agrees e h ∙ ap (maybe (at j.half.now.side j.t)) p.0,
+      omega (arith, p.1, ap length bags, length-map (bags_of j.half.now j.t) (at j.half.now.side j.t)),
+    )
+judged_by j size d before (Err o) e h p f agrees = open_for j size d f agrees e h ∙ ap (maybe (at j.half.now.side j.t)) p.0 ∙ ap Some (sym p.1)
 
 -- a self-blocked transition has no obligations
 none_obliged : {X : Type 0} (f : X → Bool) → ((x : X) → f x ≡ false) → (xs : List X) → keep f xs ≡ []

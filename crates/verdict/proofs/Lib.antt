@@ -1,4 +1,3 @@
-mod Shorts
 mod Tops
 mod Flows
 mod Paired

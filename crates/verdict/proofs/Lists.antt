@@ -1,5 +1,5 @@
 -- The list of answers, side by side.
-use Rattle.std.proofs.Common.{◌≡◌, ℕ, zero, suc, ◌+◌, ◌<◌, ◌≤◌, List, [], ◌∷◌, ◌++◌, map, length, take, drop, set, Some, None, Ok, Err, Option, sym, refl, ap, ◌∙◌, subst, inl, inr, append_assoc, append-nil, add-one, arith, length-append}
+use Rattle.std.proofs.Common.{◌≡◌, ℕ, zero, suc, ◌+◌, ◌<◌, ◌≤◌, List, [], ◌∷◌, ◌++◌, map, length, take, drop, set, Some, None, Ok, Err, Option, Result, sym, refl, ap, ◌∙◌, subst, inl, inr, append_assoc, append-nil, add-one, arith, length-append}
 use Rattle.std.proofs.lemmas.List.{length-map, length-set, map-append, take_more_set}
 use Rattle.std.proofs.lemmas.Bool.{cases_eq}
 use Rattle.places.specs.Sets.{PlaceRelation, turned}
@@ -7,12 +7,14 @@ use Rattle.places.specs.declared.Side.{Side}
 use Rattle.places.specs.declared.Side.TheVariants.{Left, Right}
 use Rattle.nets.specs.Meaning.{Meaning}
 use Rattle.bisimulation.specs.Bisimulation.{between}
-use Rattle.bisimulation.specs.Verdicts.{takes, answer_for, bags_for, ObligationAt, obligations_below, obligations, answer_to, open_or, first_open}
+use Rattle.bisimulation.specs.Verdicts.{answer_for, bags_for, ObligationAt, obligations_below, obligations, answer_to, open_or, first_open}
 use Rattle.verdict.specs.Results.{at, answered_at, Wrote, with_answers, WroteBelow, ListsAnswers}
 use Rattle.verdict.specs.declared.obligation.ListRefusal.TheVariants.{TooFew}
-use Rattle.verdict.specs.Search.{bags_after, Passed}
+use Rattle.verdict.specs.Search.{Passed}
+use Rattle.verdict.specs.declared.job.Job.{Job}
+use Rattle.verdict.specs.declared.obligation.Obligation.{Obligation}
+use Rattle.std.specs.Result.{result_unwrap_or}
 use Rattle.verdict.specs.declared.obligation.AnsweredObligation.{AnsweredObligation}
-use Rattle.verdict.proofs.Halves.{all_bags}
 use Rattle.verdict.proofs.Wrote.{wrote_on, wrote_long}
 
 -- where nothing stops the walk, all bags are counted
@@ -20,11 +22,9 @@ none_stops : {X : Type 0} (f : X → Option ℕ) → ((x : X) → f x ≡ Some 0
 none_stops f h [] = refl
 none_stops f h (x ∷ xs) = ap (λ v. open_or v x (first_open f xs)) (h x) ∙ none_stops f h xs
 
-pub counted_some : (f : List ℕ → Option ℕ) (mover other : Meaning) (R : PlaceRelation) (t size d before count : ℕ) (chosen : List ℕ) → size ≡ length (takes mover t) → d ≡ other.places → Passed f (0 + size) before (bags_after mover R t [] d 0 size) chosen (Some count) → count ≡ before + length (bags_for mover other R t)
-counted_some f mover other R t size d before count chosen e h p = p.1 ∙ ap (λ bs. before + length bs) (all_bags mover other R t size d e h)
-
-pub counted_none : (f : List ℕ → Option ℕ) → ((ys : List ℕ) → f ys ≡ Some 0) → (size before : ℕ) (bags : List (List ℕ)) (chosen : List ℕ) → Passed f size before bags chosen None → ⊥
-counted_none f h size before bags chosen p = let e = sym (none_stops f h bags) ∙ p in let z : ◌≡◌ {A = ℕ} 0 1 = cc in omega arith
+pub counted_all : (j : Job) (before : ℕ) (bags : List (List ℕ)) (r : Result ℕ Obligation) → Passed j (λ ys. Some 0) before bags r → result_unwrap_or r before ≡ before + length bags
+counted_all j before bags (Ok count) p = p.1
+counted_all j before bags (Err o) p = let e = sym (none_stops (λ ys. Some 0) (λ ys. refl) bags) ∙ p.0 in let z : ◌≡◌ {A = ℕ} 0 1 = cc in absurd (omega arith)
 
 -- entries for the bags of one transition are entries for its obligations
 pub entries_are : (side : Side) (t : ℕ) (f : ObligationAt → Option ℕ) (g : List ℕ → Option ℕ) → ((zs : List ℕ) → f (at side t zs) ≡ g zs) → (bags : List (List ℕ)) → map (λ ys. (at side t ys, g ys)) bags ≡ with_answers f (map (at side t) bags)

@@ -1,6 +1,9 @@
 -- Tokens that can be paired with places chosen and with later ones.
-use Rattle.std.proofs.Common.{◌≡◌, ℕ, zero, suc, ◌+◌, ◌<◌, ◌≤◌, Bool, true, T, ◌↔◌, List, [], ◌∷◌, ◌++◌, length, get_or, take, drop, sym, refl, ap, subst, inl, inr, append-nil, add-one, arith, drop-cons}
-use Rattle.std.proofs.lemmas.Bool.{cases_eq}
+use Rattle.std.proofs.Common.{◌≡◌, ℕ, zero, suc, ◌+◌, ◌-◌, ◌<◌, ◌≤◌, Bool, true, T, ◌↔◌, nat_eq, List, [], ◌∷◌, ◌++◌, length, get_or, take, drop, sym, refl, ap, ◌∙◌, subst, inl, inr, append-nil, arith}
+use mathlib.Core.Path.{fun_ext}
+use Rattle.std.proofs.lemmas.List.{take_all}
+use Rattle.std.proofs.lemmas.Bool.{cases_eq, both_ways, eqb-true, eq-eqb}
+use Rattle.bags.specs.Equality.{Removes, absent, here, later}
 use Rattle.places.specs.Bags.{Bag, single, ◌⊖◌}
 use Rattle.places.specs.Sets.{PlaceRelation}
 use Rattle.places.specs.Laws.{single_same, single_other, single_le}
@@ -10,32 +13,11 @@ use Rattle.bisimulation.specs.Lists.{tokens_of, related_lists}
 use Rattle.bisimulation.specs.Laws.{tokens_append}
 use Rattle.bisimulation.specs.Spelled.{remove}
 use Rattle.bisimulation.specs.Related.{tests}
-use Rattle.verdict.specs.Search.{pairs_of, AllFrom, AllReach, Completes}
+use Rattle.verdict.specs.Relating.{pairs_of}
+use Rattle.verdict.specs.Search.{AllFrom, AllReach, Completes}
 use Rattle.verdict.specs.declared.pairs.Pairs.{Pairs}
 use Rattle.verdict.proofs.Tests.{bool_same}
 use Rattle.verdict.proofs.Tops.{pairs_placed}
-
--- each of the first places reaches
-pub reach_none : (R : PlaceRelation) (lo : ℕ) (xs : List ℕ) → AllReach R lo (take 0 xs)
-reach_none R lo xs = tt
-
-pub reach_more : (R : PlaceRelation) (lo : ℕ) (xs : List ℕ) (i : ℕ) → i < length xs → AllReach R lo (take i xs) → ((q : ℕ) × ((lo ≤ q) × T (R (get_or xs i 0) q))) → AllReach R lo (take (i + 1) xs)
-reach_more R lo xs i l h w = subst (λ n. AllReach R lo (take n xs)) (sym (add-one i)) (go xs i l h w)
-  where
-    go : (xs : List ℕ) (i : ℕ) → i < length xs → AllReach R lo (take i xs) → ((q : ℕ) × ((lo ≤ q) × T (R (get_or xs i 0) q))) → AllReach R lo (take (suc i) xs)
-    go [] i l h w = absurd (omega arith)
-    go (x ∷ xs) zero l h w = (w, tt)
-    go (x ∷ xs) (suc i) l h w = (h.0, go xs i (omega arith) h.1 w)
-
-pub reach_at : (R : PlaceRelation) (lo : ℕ) (xs : List ℕ) (i : ℕ) → i < length xs → AllReach R lo xs → (q : ℕ) × ((lo ≤ q) × T (R (get_or xs i 0) q))
-reach_at R lo [] i l h = absurd (omega arith)
-reach_at R lo (x ∷ xs) zero l h = h.0
-reach_at R lo (x ∷ xs) (suc i) l h = reach_at R lo xs i (omega arith) h.1
-
-pub reach_all : (R : PlaceRelation) (lo : ℕ) (xs : List ℕ) (i : ℕ) → length xs ≤ i → AllReach R lo (take i xs) → AllReach R lo xs
-reach_all R lo [] i l h = tt
-reach_all R lo (x ∷ xs) zero l h = absurd (omega arith)
-reach_all R lo (x ∷ xs) (suc i) l h = (h.0, reach_all R lo xs i (omega arith) h.1)
 
 -- a place of a list that has none below lo
 from_at : (lo : ℕ) (ys : List ℕ) (y : ℕ) → AllFrom lo ys → 0 < tokens_of ys y → lo ≤ y
@@ -65,17 +47,8 @@ from_reach R lo (x ∷ xs) ys h c =
       from_reach R lo xs z.left (from_part lo ys z.left h (λ q. omega (arith, z.makes q))) (moved (λ p. omega arith) (λ q. sym (z.makes q)) y.rest),
     )
 
-pub completes_none : {R : PlaceRelation} {lo : ℕ} (xs cs : List ℕ) (k : ℕ) → length cs ≤ k → AllReach R lo xs ↔ Completes R (tokens_of xs) (drop k cs) lo
-completes_none {R} {lo} xs cs k l = (
-  λ h. subst (λ ds. Completes R (tokens_of xs) ds lo) (sym (past cs k l)) (reach_from R lo xs h),
-  λ c. let d = subst (λ ds. Completes R (tokens_of xs) ds lo) (past cs k l) c in from_reach R lo xs d.later d.from_lo d.related,
-)
-  where
-    past : (cs : List ℕ) (k : ℕ) → length cs ≤ k → drop k cs ≡ []
-    past [] zero l = refl
-    past [] (suc k) l = refl
-    past (x ∷ cs) zero l = absurd (omega arith)
-    past (x ∷ cs) (suc k) l = past cs k (omega arith)
+pub completes_none : {R : PlaceRelation} {lo : ℕ} (xs : List ℕ) → AllReach R lo xs ↔ Completes R (tokens_of xs) [] lo
+completes_none {R} {lo} xs = (reach_from R lo xs, λ d. from_reach R lo xs d.later d.from_lo d.related)
 
 -- a token for the next place, and the rest
 pub completes_by : {R : PlaceRelation} {lo : ℕ} (xs : List ℕ) (i q : ℕ) (cs : List ℕ) → i < length xs → T (R (get_or xs i 0) q) → Completes R (tokens_of xs ⊖ single (get_or xs i 0)) cs lo → Completes R (tokens_of xs) (q ∷ cs) lo
@@ -122,9 +95,9 @@ pub before_none : {R : PlaceRelation} {lo : ℕ} {xs : List ℕ} {q : ℕ} {cs :
 before_none = record { none_does = λ j l. absurd (omega arith) }
 
 pub before_more : {R : PlaceRelation} {lo : ℕ} (xs : List ℕ) (i q : ℕ) (cs : List ℕ) → NoneBefore R lo xs i q cs → (T (R (get_or xs i 0) q) → Completes R (tokens_of xs ⊖ single (get_or xs i 0)) cs lo → ⊥) → NoneBefore R lo xs (i + 1) q cs
-before_more {R} {lo} xs i q cs h here = record {
+before_more {R} {lo} xs i q cs h fails = record {
   none_does = λ j l r c. elim (cases_eq j i) [
-    | inl e ↦ here (subst (λ k. T (R (get_or xs k 0) q)) e r) (subst (λ k. Completes R (tokens_of xs ⊖ single (get_or xs k 0)) cs lo) e c)
+    | inl e ↦ fails (subst (λ k. T (R (get_or xs k 0) q)) e r) (subst (λ k. Completes R (tokens_of xs ⊖ single (get_or xs k 0)) cs lo) e c)
     | inr n ↦ h.none_does j (omega arith) r c
   ];
 }
@@ -135,12 +108,8 @@ none_completes {R} {lo} {i} {q} xs cs l h c =
     let w = index xs t.place t.held in
     h.none_does w.0 (omega (arith, w.1.0)) (subst (λ x. T (R x q)) (sym w.1.1) t.here) (subst (λ x. Completes R (tokens_of xs ⊖ single x) cs lo) (sym w.1.1) t.rest)
 
--- the place at k and those behind it
-pub at_drop : (cs : List ℕ) (k : ℕ) → k < length cs → drop k cs ≡ get_or cs k 0 ∷ drop (k + 1) cs
-at_drop cs k l = rw add-one (drop-cons cs k 0 l)
-
 -- where nothing later can be related, completing is being related
-pub related_exactly : (s : Pairs) (xs ys : List ℕ) (b : Bool) → (b ≡ true) ↔ Completes (pairs_of s) (tokens_of xs) (drop 0 ys) 16 → b ≡ related_lists (pairs_of s) xs ys
+pub related_exactly : (s : Pairs) (xs ys : List ℕ) (b : Bool) → (b ≡ true) ↔ Completes (pairs_of s) (tokens_of xs) ys 16 → b ≡ related_lists (pairs_of s) xs ys
 related_exactly s xs ys b h = bool_same b (related_lists (pairs_of s) xs ys) there back
   where
     alone : (zs : List ℕ) → AllFrom 16 zs → Closure (pairs_of s) (tokens_of xs) (tokens_of (ys ++ zs)) → Closure (pairs_of s) (tokens_of xs) (tokens_of ys)
@@ -152,3 +121,27 @@ related_exactly s xs ys b h = bool_same b (related_lists (pairs_of s) xs ys) the
 
     back : related_lists (pairs_of s) xs ys ≡ true → b ≡ true
     back e = h.1 (record { later = []; from_lo = tt; related = moved (λ p. refl) (λ q. ap (λ vs. tokens_of vs q) (sym (append-nil ys))) ((tests (pairs_of s) xs ys).0 e) })
+
+-- the tokens without the earliest on a place
+without_at : (p : ℕ) (xs : List ℕ) (found : Bool) (zs : List ℕ) → Removes (λ y b. b ≡ nat_eq y p) xs found zs → (q : ℕ) → tokens_of zs q ≡ tokens_of xs q - single p q
+without_at p [] found zs absent q = omega arith
+without_at p (y ∷ ys) found zs (here _ _ h) q = let same : y ≡ p = eqb-true y p (sym h) in omega (arith, ap (λ v. single v q) same)
+without_at p (y ∷ ys) found zs (later _ _ _ ws h r) q = elim (cases_eq p q) [
+  | inl e ↦ omega (arith, without_at p ys found ws r q, single_other y q (λ s. both_ways (nat_eq y p) (sym h) (eq-eqb y p (s ∙ sym e))))
+  | inr n ↦ omega (arith, without_at p ys found ws r q, single_other p q n)
+]
+
+pub without_tokens : (p : ℕ) (xs : List ℕ) (found : Bool) (zs : List ℕ) → Removes (λ y b. b ≡ nat_eq y p) xs found zs → tokens_of zs ≡ tokens_of xs ⊖ single p
+without_tokens p xs found zs r = fun_ext (without_at p xs found zs r)
+
+-- no places, and the first place and those behind it
+pub nothing : (cs : List ℕ) → length cs < 1 → cs ≡ []
+nothing [] l = refl
+nothing (c ∷ cs) l = absurd (omega arith)
+
+abbrev pub later_than_first : List ℕ → List ℕ
+later_than_first cs = take (length cs - 1) (drop 1 cs)
+
+pub first_and_later : (cs : List ℕ) → 1 ≤ length cs → cs ≡ get_or cs 0 0 ∷ later_than_first cs
+first_and_later [] l = absurd (omega arith)
+first_and_later (c ∷ cs) l = ap (λ ds. c ∷ ds) (sym (take_all (suc (length cs) - 1) cs (omega arith)))

@@ -1,7 +1,8 @@
 -- Going through the bags of the obligations of one transition.
-use Rattle.std.proofs.Common.{◌≡◌, ℕ, zero, suc, ◌+◌, ◌-◌, ◌<◌, ◌≤◌, Bool, true, false, cond, not, ◌&&◌, ltb, ◌↔◌, List, [], ◌∷◌, ◌++◌, map, length, take, set, Some, None, Option, sym, refl, ap, ◌∙◌, subst, inl, inr, append_assoc, append-nil, add-one, sub-one, arith, length-append}
-use Rattle.std.proofs.lemmas.List.{take_more_set, take-take, take-set, map-append, length-map, take_all}
-use Rattle.std.proofs.lemmas.Bool.{cases_Bool, cond-true, cond-false, and_parts, and_from, not_from_false}
+use Rattle.std.proofs.Common.{◌≡◌, ℕ, zero, suc, ◌+◌, ◌-◌, ◌<◌, ◌≤◌, Bool, true, false, cond, not, ◌&&◌, ltb, ◌↔◌, List, [], ◌∷◌, ◌++◌, map, length, Some, None, Option, Ok, Err, Result, is_some, sym, refl, ap, ◌∙◌, subst, inl, inr, append_assoc, append-nil, add-one, sub-one, arith, length-append}
+use Rattle.std.specs.Result.{IfOk, IsErrAnd}
+use Rattle.std.proofs.lemmas.List.{map-append, length-map}
+use Rattle.std.proofs.lemmas.Bool.{cases_Bool, cond-true, cond-false, and_parts, and_from, false≢true, lt-ltb, not_from_false}
 use Rattle.places.specs.Sets.{PlaceRelation}
 use Rattle.pairing.specs.Laws.{moved}
 use Rattle.nets.specs.Meaning.{Meaning}
@@ -9,8 +10,11 @@ use Rattle.bisimulation.specs.Lists.{tokens_of, related_lists, lists_from}
 use Rattle.bisimulation.specs.Verdicts.{keep, takes, self_blocked, obliges, answers, lowest_below, answer_for, open_or, first_open}
 use Rattle.bisimulation.specs.Related.{tests}
 use Rattle.bisimulation.specs.Spelled.{one_length}
-use Rattle.verdict.specs.Search.{AllFrom, Completes, bags_after, Passed, mover_of, other_of, related_by, tested, Ready}
+use Rattle.verdict.specs.PlaceLists.{places_in}
 use Rattle.verdict.specs.ShortLists.{listed}
+use Rattle.verdict.specs.Search.{AllFrom, Completes, bags_after, Passed, mover_of, related_by}
+use Rattle.verdict.specs.declared.obligation.Obligation.{Obligation}
+use Rattle.verdict.specs.declared.place_list.PlaceList.{PlaceList}
 use Rattle.verdict.specs.declared.job.Job.{Job}
 
 pub keep_append : {X : Type 0} (f : X → Bool) (xs ys : List X) → keep f (xs ++ ys) ≡ keep f xs ++ keep f ys
@@ -86,10 +90,10 @@ pub pruned : (mover : Meaning) (R : PlaceRelation) (t : ℕ) (pre : List ℕ) (d
 pruned mover R t pre d lo s none = none_kept (obliges mover R t) pre lo d lo s (omega arith) (λ zs a e. none (record { later = zs; from_lo = a; related = (tests R (takes mover t) (pre ++ zs)).0 (related_of mover R t (pre ++ zs) e) }))
 
 -- a beginning of full length that can be completed is an obligation
-pub full_obliges : (j : Job) (pre : List ℕ) (lo : ℕ) → Ready j → length pre ≡ length (takes (mover_of j) j.t) → Completes (related_by j) (tokens_of (takes (mover_of j) j.t)) pre lo → obliges (mover_of j) (related_by j) j.t pre ≡ true
-full_obliges j pre lo ready long c =
-    and_from (ltb j.t (mover_of j).transitions) (not (self_blocked (mover_of j) j.t) && related_lists (related_by j) (takes (mover_of j) j.t) pre) ready.there
-    (and_from (not (self_blocked (mover_of j) j.t)) (related_lists (related_by j) (takes (mover_of j) j.t) pre) (not_from_false (self_blocked (mover_of j) j.t) ready.free)
+pub full_obliges : (j : Job) (pre : List ℕ) (lo : ℕ) → length pre ≡ length (takes (mover_of j) j.t) → Completes (related_by j) (tokens_of (takes (mover_of j) j.t)) pre lo → obliges (mover_of j) (related_by j) j.t pre ≡ true
+full_obliges j pre lo long c =
+    and_from (ltb j.t (mover_of j).transitions) (not (self_blocked (mover_of j) j.t) && related_lists (related_by j) (takes (mover_of j) j.t) pre) (lt-ltb j.t (mover_of j).transitions j.there)
+    (and_from (not (self_blocked (mover_of j) j.t)) (related_lists (related_by j) (takes (mover_of j) j.t) pre) (not_from_false (self_blocked (mover_of j) j.t) j.free)
     ((tests (related_by j) (takes (mover_of j) j.t) pre).1 (moved (λ p. refl) (λ q. ap (λ ys. tokens_of ys q) alone) c.related)))
   where
     short : length c.later ≡ 0
@@ -115,41 +119,42 @@ first_append {X} f (x ∷ xs) ys = ap (open_or (f x) x) (first_append f xs ys) �
     go (Some u) = refl
     go None = refl
 
-pub passed_on : (f : List ℕ → Option ℕ) (size before middle : ℕ) (xs ys : List (List ℕ)) (one two : List ℕ) (r : Option ℕ) → Passed f size before xs one (Some middle) → Passed f size middle ys two r → Passed f size before (xs ++ ys) two r
-passed_on f size before middle xs ys one two (Some count) a b = (
+pub passed_on : (j : Job) (f : List ℕ → Option ℕ) (before middle : ℕ) (xs ys : List (List ℕ)) (r : Result ℕ Obligation) → Passed j f before xs (Ok middle) → Passed j f middle ys r → Passed j f before (xs ++ ys) r
+passed_on j f before middle xs ys (Ok count) a b = (
   first_append f xs ys ∙ ap (λ v. or_else v (first_open f ys)) a.0 ∙ b.0,
   omega (arith, a.1, b.1, length-append xs ys),
 )
-passed_on f size before middle xs ys one two None a b = first_append f xs ys ∙ ap (λ v. or_else v (first_open f ys)) a.0 ∙ b
+passed_on j f before middle xs ys (Err o) a b = (first_append f xs ys ∙ ap (λ v. or_else v (first_open f ys)) a.0 ∙ b.0, b.1)
 
-pub passed_stop : (f : List ℕ → Option ℕ) (size before : ℕ) (xs ys : List (List ℕ)) (chosen : List ℕ) → Passed f size before xs chosen None → Passed f size before (xs ++ ys) chosen None
-passed_stop f size before xs ys chosen a = first_append f xs ys ∙ ap (λ v. or_else v (first_open f ys)) a
+pub passed_stop : (j : Job) (f : List ℕ → Option ℕ) (before : ℕ) (xs ys : List (List ℕ)) (r : Result ℕ Obligation) (o : Obligation) → IsErrAnd r (λ x. x ≡ o) → Passed j f before xs (Err o) → Passed j f before (xs ++ ys) r
+passed_stop j f before xs ys (Ok count) o e a = absurd e
+passed_stop j f before xs ys (Err x) o e a = subst (λ y. Passed j f before (xs ++ ys) (Err y)) (sym e) (first_append f xs ys ∙ ap (λ v. or_else v (first_open f ys)) a.0, a.1)
 
-pub passed_none : (f : List ℕ → Option ℕ) (size before : ℕ) (chosen : List ℕ) → Passed f size before [] chosen (Some before)
-passed_none f size before chosen = (refl, omega arith)
+-- a refusal that is passed on
+pub err_is : (P : Result ℕ Obligation → Type 0) (r : Result ℕ Obligation) (o : Obligation) → IsErrAnd r (λ x. x ≡ o) → P (Err o) → P r
+err_is P (Ok n) o e p = absurd e
+err_is P (Err x) o e p = subst (λ y. P (Err y)) (sym e) p
+
+pub passed_none : (j : Job) (f : List ℕ → Option ℕ) (before : ℕ) → Passed j f before [] (Ok before)
+passed_none j f before = (refl, omega arith)
 
 -- one bag
+some_open : {X : Type 0} (v : Option ℕ) (x : X) → true ≡ is_some v → open_or v x None ≡ None
+some_open (Some u) x e = refl
+some_open None x e = absurd (false≢true (sym e))
+
+none_open : {X : Type 0} (v : Option ℕ) (x : X) → false ≡ is_some v → open_or v x None ≡ Some x
+none_open (Some u) x e = absurd (false≢true e)
+none_open None x e = refl
+
+pub passed_one : (j : Job) (f : List ℕ → Option ℕ) (before : ℕ) (ys : List ℕ) → true ≡ is_some (f ys) → Passed j f before (ys ∷ []) (Ok (before + 1))
+passed_one j f before ys e = (some_open (f ys) ys e, omega arith)
+
+pub stopped_one : (j : Job) (f : List ℕ → Option ℕ) (before : ℕ) (ys : List ℕ) (bag : PlaceList) → false ≡ is_some (f ys) → places_in bag ≡ ys → Passed j f before (ys ∷ []) (Err (record { side = j.half.now.side; transition = j.t; bag = bag }))
+stopped_one j f before ys bag e is = (none_open (f ys) ys e ∙ ap Some (sym is), refl)
+
 pub answer_is : (mover other : Meaning) (R : PlaceRelation) (t : ℕ) (ys : List ℕ) (r : Option ℕ) → obliges mover R t ys ≡ true → r ≡ lowest_below (answers mover other R t ys) other.transitions → answer_for mover other R t ys ≡ r
 answer_is mover other R t ys r e h = cond-true (obliges mover R t ys) (lowest_below (answers mover other R t ys) other.transitions) None e ∙ sym h
-
-pub passed_one : (j : Job) (ys : List ℕ) (u before : ℕ) → j.judging ≡ true → obliges (mover_of j) (related_by j) j.t ys ≡ true → Some u ≡ lowest_below (answers (mover_of j) (other_of j) (related_by j) j.t ys) (other_of j).transitions → Passed (tested j) (length ys) before (ys ∷ []) ys (Some (before + 1))
-passed_one j ys u before judging e h = (ap (λ v. open_or v ys None) (cond-true j.judging (answer_for (mover_of j) (other_of j) (related_by j) j.t ys) (Some 0) judging ∙ answer_is (mover_of j) (other_of j) (related_by j) j.t ys (Some u) e h), omega arith)
-
-pub stopped_one : (j : Job) (ys : List ℕ) (before : ℕ) → j.judging ≡ true → obliges (mover_of j) (related_by j) j.t ys ≡ true → None ≡ lowest_below (answers (mover_of j) (other_of j) (related_by j) j.t ys) (other_of j).transitions → Passed (tested j) (length ys) before (ys ∷ []) ys None
-stopped_one j ys before judging e h = ap (λ v. open_or v ys None) (cond-true j.judging (answer_for (mover_of j) (other_of j) (related_by j) j.t ys) (Some 0) judging ∙ answer_is (mover_of j) (other_of j) (related_by j) j.t ys None e h) ∙ ap Some (sym (take_all (length ys) ys (omega arith)))
-
-pub counted_one : (j : Job) (ys : List ℕ) (before : ℕ) → j.judging ≡ false → Passed (tested j) (length ys) before (ys ∷ []) ys (Some (before + 1))
-counted_one j ys before counting = (ap (λ v. open_or v ys None) (cond-false j.judging (answer_for (mover_of j) (other_of j) (related_by j) j.t ys) (Some 0) counting), omega arith)
-
-pub passed_leaf : (f : List ℕ → Option ℕ) (size before : ℕ) (ys chosen : List ℕ) (r : Option ℕ) → ys ≡ take size chosen → Passed f (length ys) before (ys ∷ []) ys r → Passed f size before (ys ∷ []) chosen r
-passed_leaf f size before ys chosen (Some count) e p = p
-passed_leaf f size before ys chosen None e p = p ∙ ap Some (take_all (length ys) ys (omega arith) ∙ e)
-
--- what a call one place on has left as it was
-pub kept_below : (ch ch1 : List ℕ) (n x : ℕ) → take (n + 1) ch1 ≡ take (n + 1) (set ch n x) → take n ch1 ≡ take n ch
-kept_below ch ch1 n x e =
-    let le : n ≤ n + 1 = omega arith in
-    sym (take-take n (n + 1) ch1 le) ∙ ap (take n) e ∙ take-take n (n + 1) (set ch n x) le ∙ take-set ch n x
 
 pub one_list : (d lo s : ℕ) → s ≡ 0 → length (lists_from d lo s) ≡ 1
 unfolding lists_from
@@ -157,17 +162,23 @@ one_list d lo zero e = refl
 one_list d lo (suc s) e = absurd (omega arith)
 
 -- the end of a list of places chosen
-pub leaf_passed : (f : List ℕ → Option ℕ) (mover : Meaning) (R : PlaceRelation) (t d lo n left count : ℕ) (chosen : List ℕ) (r : Option ℕ) → left ≡ 0 → obliges mover R t (take n chosen) ≡ true → Passed f (length (take n chosen)) count (take n chosen ∷ []) (take n chosen) r → Passed f (n + left) count (bags_after mover R t (take n chosen) d lo left) chosen r
-leaf_passed f mover R t d lo n left count chosen r z e h =
-    let size : n ≡ n + left = omega arith in
-    subst (λ s. Passed f (n + left) count (bags_after mover R t (take n chosen) d lo s) chosen r) (sym z)
-    (subst (λ bags. Passed f (n + left) count bags chosen r) (sym (leaf_bags mover R t (take n chosen) d lo e))
-    (passed_leaf f (n + left) count (take n chosen) chosen r (ap (λ k. take k chosen) size) h))
+pub leaf_passed : (j : Job) (f : List ℕ → Option ℕ) (pre : List ℕ) (d lo left count : ℕ) (r : Result ℕ Obligation) → left ≡ 0 → obliges (mover_of j) (related_by j) j.t pre ≡ true → Passed j f count (pre ∷ []) r → Passed j f count (bags_after (mover_of j) (related_by j) j.t pre d lo left) r
+leaf_passed j f pre d lo left count r z e h =
+    subst (λ s. Passed j f count (bags_after (mover_of j) (related_by j) j.t pre d lo s) r) (sym z)
+    (subst (λ bags. Passed j f count bags r) (sym (leaf_bags (mover_of j) (related_by j) j.t pre d lo e)) h)
 
 -- a beginning and its tokens, as they stand in the job
-pub begun : (j : Job) (ys : List ℕ) (chosen : List ℕ) (n x lo : ℕ) → Ready j → n < length chosen → ys ≡ take (n + 1) (set chosen n x) → Completes (related_by j) (tokens_of (listed j.takes)) ys lo ↔ Completes (related_by j) (tokens_of (takes (mover_of j) j.t)) (take n chosen ++ x ∷ []) lo
-begun j ys chosen n x lo ready l e =
-    let same = e ∙ take_more_set chosen n x l in (
-      λ c. subst (λ xs. Completes (related_by j) (tokens_of xs) (take n chosen ++ x ∷ []) lo) ready.takes_are (subst (λ zs. Completes (related_by j) (tokens_of (listed j.takes)) zs lo) same c),
-      λ c. subst (λ zs. Completes (related_by j) (tokens_of (listed j.takes)) zs lo) (sym same) (subst (λ xs. Completes (related_by j) (tokens_of xs) (take n chosen ++ x ∷ []) lo) (sym ready.takes_are) c),
-    )
+pub begun : (j : Job) (ys pre : List ℕ) (lo : ℕ) → ys ≡ pre → Completes (related_by j) (tokens_of (listed j.flows.takes)) ys lo ↔ Completes (related_by j) (tokens_of (takes (mover_of j) j.t)) pre lo
+begun j ys pre lo same = (
+  λ c. subst (λ xs. Completes (related_by j) (tokens_of xs) pre lo) j.taken (subst (λ zs. Completes (related_by j) (tokens_of (listed j.flows.takes)) zs lo) same c),
+  λ c. subst (λ zs. Completes (related_by j) (tokens_of (listed j.flows.takes)) zs lo) (sym same) (subst (λ xs. Completes (related_by j) (tokens_of xs) pre lo) (sym j.taken) c),
+)
+
+-- a count that is passed on
+pub counted_on : (r : Result ℕ Obligation) (before middle all first second : ℕ) → all ≡ first + second → middle ≡ before + first → IfOk r (λ n. n ≡ middle + second) → IfOk r (λ n. n ≡ before + all)
+counted_on (Ok n) before middle all first second e m h = omega (arith, e, m, h)
+counted_on (Err o) before middle all first second e m h = tt
+
+pub counted_stop : (r : Result ℕ Obligation) (P : ℕ → Type 0) (o : Obligation) → IsErrAnd r (λ x. x ≡ o) → IfOk r P
+counted_stop (Ok n) P o e = absurd e
+counted_stop (Err x) P o e = tt

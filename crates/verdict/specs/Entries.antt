@@ -6,4 +6,4 @@ use Rattle.verdict.specs.Search.{mover_of, other_of, related_by}
 use Rattle.verdict.specs.declared.job.Job.{Job}
 
 abbrev pub entry : Job → List ℕ → ObligationAt × Option ℕ
-entry j ys = (at j.side j.t ys, answer_for (mover_of j) (other_of j) (related_by j) j.t ys)
+entry j ys = (at j.half.now.side j.t ys, answer_for (mover_of j) (other_of j) (related_by j) j.t ys)

@@ -1,5 +1,6 @@
 pub mod ShortLists
 pub mod PlaceLists
-pub mod Search
+pub mod Relating
 pub mod Results
+pub mod Search
 pub mod Entries

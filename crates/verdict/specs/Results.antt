@@ -30,11 +30,11 @@ abbrev pub blank_entry : ObligationAt × Option ℕ
 blank_entry = (record { side = Left; transition = 0; bag = [] }, None)
 
 abbrev pub verdict_number : VerdictRefusal → ℕ
-verdict_number (Unsound side transition bag) = 34
+verdict_number (Unsound o) = 34
 
 -- the obligation that comes with a refusal
 abbrev pub unsound_at : VerdictRefusal → ObligationAt
-unsound_at (Unsound side transition bag) = record { side = side; transition = transition; bag = places_in bag }
+unsound_at (Unsound o) = obligation_at o
 
 abbrev pub verdict_as : Result ℕ VerdictRefusal → Verdict
 verdict_as (Ok count) = accepted count

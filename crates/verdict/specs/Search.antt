@@ -1,37 +1,24 @@
 -- What is known while the bags of an obligation are gone through. Assumes nothing.
-use Rattle.std.specs.Prelude.{◌≡◌, ℕ, ◌+◌, ◌<◌, ◌≤◌, true, false, cond, ◌&&◌, T, ltb, List, [], ◌∷◌, ◌++◌, map, length, take, Some, None, Option, nat_lt, slice_index, slice_index_or}
+use Rattle.std.specs.Prelude.{◌≡◌, ℕ, ◌+◌, ◌≤◌, T, List, [], ◌∷◌, ◌++◌, map, length, Some, None, Ok, Err, Option, Result}
 use Rattle.places.specs.Bags.{Bag}
 use Rattle.places.specs.Sets.{PlaceRelation}
-use Rattle.places.specs.Meanings.{relation_of}
+use Rattle.places.specs.declared.Side.{Side}
+use Rattle.places.specs.declared.Side.TheVariants.{Left, Right}
 use Rattle.pairing.specs.Closure.{Closure}
 use Rattle.nets.specs.Meaning.{Meaning}
-use Rattle.nets.specs.Firing.{pre_set, post_set}
 use Rattle.nets.specs.Tables.{table_meaning}
+use Rattle.nets.specs.declared.table.Table.{Table}
+use Rattle.bisimulation.specs.Bisimulation.{between}
 use Rattle.bisimulation.specs.Lists.{tokens_of, lists_from}
-use Rattle.bisimulation.specs.Verdicts.{keep, takes, gives, self_blocked, obliges, answer_for, first_open}
-use Rattle.verdict.specs.ShortLists.{listed}
-use Rattle.verdict.specs.declared.short_list.ShortList.{ShortList}
+use Rattle.bisimulation.specs.Verdicts.{keep, obliges, bags_for, ObligationAt, obligations_below, first_open}
+use Rattle.verdict.specs.PlaceLists.{places_in}
+use Rattle.verdict.specs.Results.{obligation_at, at, JudgedBelow, WroteBelow}
+use Rattle.verdict.specs.declared.obligation.Obligation.{Obligation}
+use Rattle.verdict.specs.declared.obligation.AnsweredObligation.{AnsweredObligation}
 use Rattle.verdict.specs.declared.pairs.Pairs.{Pairs}
-use Rattle.verdict.specs.declared.outline.Role.{Role}
-use Rattle.verdict.specs.declared.outline.Role.TheVariants.{Takes, Gives}
-use Rattle.verdict.specs.declared.outline.Outline.{Outline}
+use Rattle.verdict.specs.Relating.{facing, pairs_of}
+use Rattle.verdict.specs.declared.half.Half.{Half}
 use Rattle.verdict.specs.declared.job.Job.{Job}
-
--- the pairs of R with a left place and a right place below the two numbers
-abbrev pub inside : ℕ → ℕ → PlaceRelation → PlaceRelation
-inside left right R p q = nat_lt p left && (nat_lt q right && R p q)
-
--- the relation of a Pairs: from the left net to the right one, or turned
-abbrev pub pairs_of : Pairs → PlaceRelation
-pairs_of s p q = cond s.is_turned (inside s.left s.right (relation_of s.relation.now) q p) (inside s.left s.right (relation_of s.relation.now) p q)
-
--- k is one more than the highest place that is related to p, or 0 where there is none
-pub record Top (R : PlaceRelation) (p k : ℕ) : Type 0 where
-  pub below : (q : ℕ) → T (R p q) → q < k
-  pub reached : (q : ℕ) → q + 1 ≡ k → T (R p q)
-
-abbrev pub Tops : PlaceRelation → List ℕ → Type 0
-Tops R tops = (p : ℕ) → p < 16 → Top R p (slice_index tops p)
 
 -- no place of the list is below lo
 abbrev pub AllFrom : ℕ → List ℕ → Type 0
@@ -49,51 +36,58 @@ pub record Completes (R : PlaceRelation) (b : Bag) (cs : List ℕ) (lo : ℕ) : 
   pub from_lo : AllFrom lo later
   pub related : Closure R b (tokens_of (cs ++ later))
 
--- what a transition takes, or gives
-abbrev pub flow : Meaning → Role → ℕ → Bag
-flow n Takes t = pre_set n t
-flow n Gives t = post_set n t
+-- the side on which a net moves and another answers
+pub record Moves (side : Side) (mover other : Table) (pairs : Pairs) (h : Half) : Type 0 where
+  pub side_is : h.side ≡ side
+  pub mover_is : h.mover.now ≡ mover
+  pub other_is : h.other.now ≡ other
+  pub pairs_are : h.pairs ≡ pairs
 
-abbrev pub flow_list : Meaning → Role → ℕ → List ℕ
-flow_list n Takes t = takes n t
-flow_list n Gives t = gives n t
+-- the net that moves, and the one that answers
+abbrev pub mover_on : Side → Meaning → Meaning → Meaning
+mover_on Left n k = n
+mover_on Right n k = k
 
--- the lists of the transitions of a net
-pub record Outlined (n : Meaning) (o : Outline) : Type 0 where
-  pub long_takes : length o.takes ≡ 32
-  pub long_gives : length o.gives ≡ 32
-  pub takes_listed : (t : ℕ) → t < 32 → (d : ShortList) → listed (slice_index_or o.takes t d) ≡ takes n t
-  pub gives_listed : (t : ℕ) → t < 32 → (d : ShortList) → listed (slice_index_or o.gives t d) ≡ gives n t
+abbrev pub other_on : Side → Meaning → Meaning → Meaning
+other_on Left n k = k
+other_on Right n k = n
 
--- the nets, the relation and the transition of a job
+-- a side of the nets n and k under R
+pub record Faces (side : Side) (n k : Meaning) (R : PlaceRelation) (h : Half) : Type 0 where
+  pub side_is : h.side ≡ side
+  pub mover_is : table_meaning h.mover.now ≡ mover_on side n k
+  pub other_is : table_meaning h.other.now ≡ other_on side n k
+  pub related_is : pairs_of h.pairs ≡ facing side (between n k R)
+
+-- the nets and the relation of a job
 abbrev pub mover_of : Job → Meaning
-mover_of j = table_meaning j.mover.now
+mover_of j = table_meaning j.half.now.mover.now
 
 abbrev pub other_of : Job → Meaning
-other_of j = table_meaning j.other.now
+other_of j = table_meaning j.half.now.other.now
 
 abbrev pub related_by : Job → PlaceRelation
-related_by j = pairs_of j.pairs
-
--- what stops the walk over the bags of a job: a bag that has no answer; nothing, where they are only counted
-abbrev pub tested : Job → List ℕ → Option ℕ
-tested j ys = cond j.judging (answer_for (mover_of j) (other_of j) (related_by j) j.t ys) (Some 0)
-
--- a job is about a transition that is there and not self-blocked, and holds what was worked out beforehand
-pub record Ready (j : Job) : Type 0 where
-  pub outlined : Outlined (other_of j) j.outline.now
-  pub topped : Tops (related_by j) j.tops
-  pub places_are : j.places ≡ (other_of j).places
-  pub takes_are : listed j.takes ≡ takes (mover_of j) j.t
-  pub gives_are : listed j.gives ≡ gives (mover_of j) j.t
-  pub there : ltb j.t (mover_of j).transitions ≡ true
-  pub free : self_blocked (mover_of j) j.t ≡ false
+related_by j = pairs_of j.half.now.pairs
 
 -- the bags of the obligations that begin with pre and go on with s places of lo, .., lo + d - 1
 abbrev pub bags_after : Meaning → PlaceRelation → ℕ → List ℕ → ℕ → ℕ → ℕ → List (List ℕ)
 bags_after mover R t pre d lo s = keep (obliges mover R t) (map (λ zs. pre ++ zs) (lists_from d lo s))
 
--- all bags of a list were answered, and counted; or the first that was not stands in chosen
-abbrev pub Passed : (List ℕ → Option ℕ) → ℕ → ℕ → List (List ℕ) → List ℕ → Option ℕ → Type 0
-Passed answer size before bags chosen (Some count) = (first_open answer bags ≡ None) × (count ≡ before + length bags)
-Passed answer size before bags chosen None = first_open answer bags ≡ Some (take size chosen)
+-- all bags of a list have answers, and were counted; or the obligation of the first that has none is given
+abbrev pub Passed : Job → (List ℕ → Option ℕ) → ℕ → List (List ℕ) → Result ℕ Obligation → Type 0
+Passed j answer before bags (Ok count) = (first_open answer bags ≡ None) × (count ≡ before + length bags)
+Passed j answer before bags (Err o) = (first_open answer bags ≡ Some (places_in o.bag)) × (obligation_at o ≡ at j.half.now.side j.t (places_in o.bag))
+
+-- the bags of the obligations of a transition of a side, and the obligations of its transitions below a number
+abbrev pub bags_of : Half → ℕ → List (List ℕ)
+bags_of h t = bags_for (table_meaning h.mover.now) (table_meaning h.other.now) (pairs_of h.pairs) t
+
+abbrev pub obligations_of : Half → ℕ → List ObligationAt
+obligations_of h k = obligations_below h.side (table_meaning h.mover.now) (table_meaning h.other.now) (pairs_of h.pairs) k
+
+-- obligations of a side were judged, or written with their answers
+abbrev pub JudgedFor : Half → ℕ → List ObligationAt → Result ℕ Obligation → Type 0
+JudgedFor h before all r = JudgedBelow h.side (table_meaning h.mover.now) (table_meaning h.other.now) (pairs_of h.pairs) before all r
+
+abbrev pub WroteFor : Half → ℕ → List AnsweredObligation → List ObligationAt → List AnsweredObligation → Type 0
+WroteFor h i xs all ys = WroteBelow h.side (table_meaning h.mover.now) (table_meaning h.other.now) (pairs_of h.pairs) i xs all ys

@@ -6,17 +6,16 @@ ghost use Rattle.bisimulation.specs.Verdicts.{answer_for, answer_on, self_blocke
 ghost use Rattle.nets.specs.Tables.{table_meaning};
 ghost use Rattle.places.specs.Meanings.{bag_of, relation_of};
 ghost use Rattle.places.specs.Sets.{size};
-ghost use Rattle.verdict.specs.Results.{Answers};
-ghost use Rattle.verdict.specs.Search.{pairs_of};
 ghost use Rattle.verdict.specs.ShortLists.{listed};
+ghost use Rattle.verdict.specs.Relating.{pairs_of};
+ghost use Rattle.verdict.specs.Results.{Answers};
 
 use crate::answers::{find_answer, is_blocked};
+use crate::half::Half;
 use crate::job::Job;
 use crate::matching::related;
-use crate::outline::{Role, flow_list, outline_of, pile_on};
-use crate::pairs::{Pairs, tops};
+use crate::outline::pile_on;
 use crate::short_list::ShortList;
-use crate::sides::Half;
 use bisimulation::answer_given;
 use nets::{Net, Table};
 use places::{PlaceBag, Relation, Side};
@@ -39,25 +38,10 @@ fn answer_list(half: &Half, t: u8, ys: ShortList) -> Option<u8>
     requires free { self_blocked (table_meaning half.now.mover.now) t ≡ false }
     ensures { result ≡ answer_for (table_meaning half.now.mover.now) (table_meaning half.now.other.now) (pairs_of half.now.pairs) t (listed ys) }
 {
-    let tops = tops(&half.pairs);
-    let takes = flow_list(half.mover, Role::Takes, t);
-    if !related(&half.pairs, &tops, takes, ys.as_slice()) {
+    let job = Job::of(half, t);
+    if !related(half, job.flows.takes, ys.as_slice()) {
         return None;
     }
-    let outline = outline_of(half.other);
-    let job = Job {
-        side: half.side,
-        mover: half.mover,
-        other: half.other,
-        pairs: half.pairs,
-        outline: &outline,
-        tops,
-        t,
-        takes,
-        gives: flow_list(half.mover, Role::Gives, t),
-        places: half.other.places(),
-        judging: true,
-    };
     find_answer(&job, ys.as_slice())
 }
 
@@ -88,34 +72,7 @@ fn answer_value<'x>(
 ) -> Option<u8>
     ensures { result ≡ answer_on (table_meaning left.now) (table_meaning right.now) (between (table_meaning left.now) (table_meaning right.now) (relation_of relation.now)) side t (list_of 16 (bag_of bag.now)) }
 {
-    let pairs = Pairs {
-        relation,
-        left: left.places(),
-        right: right.places(),
-        is_turned: false,
-    };
-    match side {
-        Side::Left => answer_half(
-            &Half {
-                side,
-                mover: left,
-                other: right,
-                pairs,
-            },
-            t,
-            bag,
-        ),
-        Side::Right => answer_half(
-            &Half {
-                side,
-                mover: right,
-                other: left,
-                pairs: pairs.turned(),
-            },
-            t,
-            bag,
-        ),
-    }
+    answer_half(&Half::of(side, left, right, relation), t, bag)
 }
 
 /// The answer, with what it is in words.

@@ -4,7 +4,8 @@ ghost use Rattle.bisimulation.specs.Lists.{same_list};
 ghost use Rattle.bisimulation.specs.Verdicts.{alike, all_below, answers, lowest_below, same_truth, self_blocked};
 ghost use Rattle.nets.specs.Firing.{pre_set};
 ghost use Rattle.nets.specs.Tables.{table_meaning};
-ghost use Rattle.verdict.specs.Search.{mover_of, other_of, pairs_of, related_by, Ready};
+ghost use Rattle.verdict.specs.Relating.{pairs_of};
+ghost use Rattle.verdict.specs.Search.{mover_of, other_of, related_by};
 
 use crate::job::Job;
 use crate::matching::related;
@@ -55,22 +56,20 @@ fn is_same(xs: &[u8], ys: &[u8]) -> bool
 
 /// Whether a transition of the other net answers the job's transition and the bag of a list.
 fn answers_with(job: &Job, ys: &[u8], u: u8) -> bool
-    requires ready { Ready job.now }
-    requires there { u < 32 }
+    requires { u < 32 }
     ensures { result ≡ answers (mover_of job.now) (other_of job.now) (related_by job.now) job.now.t ys.now u }
 {
-    let takes = job.outline.takes[u as usize];
-    let gives = job.outline.gives[u as usize];
-    is_same(takes.as_slice(), ys)
-        && job.mover.label(job.t) == job.other.label(u)
-        && related(&job.pairs, &job.tops, job.gives, gives.as_slice())
-        && is_alike(job.mover, job.other, &job.pairs, job.t, u)
+    let half = job.half;
+    let flows = half.outline[u as usize];
+    is_same(flows.takes.as_slice(), ys)
+        && half.mover.label(job.t) == half.other.label(u)
+        && related(half, job.flows.gives, flows.gives.as_slice())
+        && is_alike(half.mover, half.other, &half.pairs, job.t, u)
 }
 
 /// The lowest transition of the other net that answers.
 pub(crate) fn find_answer(job: &Job, ys: &[u8]) -> Option<u8>
-    requires { Ready job.now }
     ensures { result ≡ lowest_below (answers (mover_of job.now) (other_of job.now) (related_by job.now) job.now.t ys.now) (other_of job.now).transitions }
 {
-    (0..job.other.transitions()).find(|u| answers_with(job, ys, *u))
+    (0..job.half.other.transitions()).find(|u| answers_with(job, ys, *u))
 }

@@ -1,23 +1,24 @@
-//! What is worked out before the bags of a transition are gone through.
-use crate::outline::Outline;
-use crate::pairs::Pairs;
-use crate::short_list::ShortList;
-use nets::Table;
-use places::Side;
+//! A transition whose bags are gone through.
+ghost use Rattle.std.specs.Prelude.{◌≡◌, ◌<◌, false};
+ghost use Rattle.bisimulation.specs.Verdicts.{self_blocked};
+ghost use Rattle.nets.specs.Tables.{table_meaning};
+ghost use Rattle.nets.specs.declared.role.Role.TheVariants.{Input, Output};
+ghost use Rattle.verdict.specs.ShortLists.{listed};
+ghost use Rattle.verdict.specs.Relating.{flow_list};
 
-/// What is needed to go through the bags of one transition.
+use crate::half::Half;
+use crate::outline::Flows;
+
+/// A transition of a side that is there and not self-blocked, and what it takes and gives.
 #[derive(Clone, Copy)]
 pub struct Job<'a, 'b> {
-    pub side: Side,
-    pub mover: &'a Table,
-    pub other: &'a Table,
-    pub pairs: Pairs<'a>,
-    pub outline: &'b Outline,
-    pub tops: [u8; 16],
+    pub half: &'b Half<'a>,
     pub t: u8,
-    pub takes: ShortList,
-    pub gives: ShortList,
-    pub places: u8,
-    /// Whether a bag without an answer stops the walk; if not, the bags are only counted.
-    pub judging: bool,
+    pub flows: Flows,
+    ghost there: { t < (table_meaning half.now.mover.now).transitions },
+    ghost free: { self_blocked (table_meaning half.now.mover.now) t ≡ false },
+    ghost taken: { listed flows.takes ≡ flow_list (table_meaning half.now.mover.now) Input t },
+    ghost given: { listed flows.gives ≡ flow_list (table_meaning half.now.mover.now) Output t },
 }
+
+mod making;

@@ -14,6 +14,7 @@ use places::{PlaceBag, Relation, Side};
 
 mod answering;
 mod answers;
+mod half;
 mod job;
 mod judging;
 mod listing;

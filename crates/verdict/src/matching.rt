@@ -1,52 +1,43 @@
 //! Whether tokens can be paired with places.
-ghost use Rattle.std.specs.Prelude.{◌≡◌, ℕ, ◌<◌, ◌≤◌, true, T, ◌↔◌, length, drop};
+ghost use Rattle.std.specs.Prelude.{◌≡◌, true, ◌↔◌, nat_lt, slice_index};
+ghost use Rattle.std.specs.List.{list_all};
 ghost use Rattle.bisimulation.specs.Lists.{related_lists, tokens_of};
-ghost use Rattle.verdict.specs.Search.{pairs_of, AllReach, Completes, Tops};
+ghost use Rattle.places.specs.Bags.{single, ◌⊖◌};
 ghost use Rattle.verdict.specs.ShortLists.{listed};
+ghost use Rattle.verdict.specs.Relating.{pairs_of};
+ghost use Rattle.verdict.specs.Search.{Completes};
 
-use crate::pairs::Pairs;
+use crate::half::Half;
 use crate::short_list::ShortList;
 
-/// Whether a place is related to one that is not below `from`.
-fn reaches(pairs: &Pairs, tops: &[u8; 16], p: u8, from: u8) -> bool
-    requires { Tops (pairs_of pairs.now) tops.now }
-    ensures { (result ≡ true) ↔ ((q : ℕ) × ((from ≤ q) × T (pairs_of pairs.now p q))) }
+/// Whether the table of each token's place goes above `from`.
+fn all_above(tops: &[u8; 16], tokens: &[u8], from: u8) -> bool
+    ensures { result ≡ list_all (λ p. nat_lt from (slice_index tops.now p)) tokens.now }
 {
-    p < 16 && tops[p as usize] > from
+    tokens
+        .iter()
+        .all(|p| from < tops.get(*p as usize).copied().unwrap_or(0))
 }
 
-/// Whether each token has a related place that is not below `from`.
-fn all_reach(pairs: &Pairs, tops: &[u8; 16], tokens: &ShortList, from: u8) -> bool
-    requires { Tops (pairs_of pairs.now) tops.now }
-    ensures { (result ≡ true) ↔ AllReach (pairs_of pairs.now) from (listed tokens.now) }
+/// The tokens without one on a place.
+fn without(tokens: ShortList, place: u8) -> ShortList
+    ensures { tokens_of (listed result) ≡ tokens_of (listed tokens) ⊖ single place }
 {
-    for i in 0..tokens.len() {
-        if !reaches(pairs, tops, tokens.at(i), from) {
-            return false;
-        }
-    }
-    true
+    let mut rest = tokens;
+    let _ = rest.remove(place);
+    rest
 }
 
-/// Whether the tokens can be paired with the places chosen, from the one at `k` on, and with later places, none of them
-/// below `from`.
-pub(crate) fn completes(
-    pairs: &Pairs,
-    tops: &[u8; 16],
-    tokens: ShortList,
-    chosen: &[u8],
-    k: usize,
-    from: u8,
-) -> bool
-    requires { Tops (pairs_of pairs.now) tops.now }
-    ensures { (result ≡ true) ↔ Completes (pairs_of pairs.now) (tokens_of (listed tokens)) (drop k chosen.now) from }
+/// Whether the tokens can be paired with the places chosen, and with later places, none of them below `from`.
+pub(crate) fn completes(half: &Half, tokens: ShortList, chosen: &[u8], from: u8) -> bool
+    ensures { (result ≡ true) ↔ Completes (pairs_of half.now.pairs) (tokens_of (listed tokens)) chosen.now from }
 {
-    if k >= chosen.len() {
-        return all_reach(pairs, tops, &tokens, from);
-    }
-    for i in 0..tokens.len() {
-        if pairs.relates(tokens.at(i), chosen[k])
-            && completes(pairs, tops, tokens.without(i), chosen, k + 1, from)
+    let [place, later @ ..] = chosen else {
+        return all_above(&half.tops, tokens.as_slice(), from);
+    };
+    for token in tokens.as_slice() {
+        if half.pairs.relates(*token, *place)
+            && completes(half, without(tokens, *token), later, from)
         {
             return true;
         }
@@ -55,9 +46,8 @@ pub(crate) fn completes(
 }
 
 /// Whether the bags of two lists are related.
-pub(crate) fn related(pairs: &Pairs, tops: &[u8; 16], xs: ShortList, ys: &[u8]) -> bool
-    requires { Tops (pairs_of pairs.now) tops.now }
-    ensures { result ≡ related_lists (pairs_of pairs.now) (listed xs) ys.now }
+pub(crate) fn related(half: &Half, xs: ShortList, ys: &[u8]) -> bool
+    ensures { result ≡ related_lists (pairs_of half.now.pairs) (listed xs) ys.now }
 {
-    completes(pairs, tops, xs, ys, 0, 16)
+    completes(half, xs, ys, 16)
 }

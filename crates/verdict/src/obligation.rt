@@ -1,5 +1,6 @@
 //! Obligations, and the refusal of a relation.
 ghost use Rattle.std.specs.Prelude.{◌≡◌};
+ghost use Rattle.verdict.specs.declared.obligation.VerdictRefusal.TheVariants.{Unsound};
 ghost use Rattle.verdict.specs.Results.{answered_at, blank_entry, list_number, verdict_number, unsound_at, obligation_at};
 
 use crate::place_list::PlaceList;
@@ -26,11 +27,10 @@ impl AnsweredObligation {
     pub fn blank() -> AnsweredObligation
         ensures { answered_at result ≡ blank_entry }
     {
-        let bag = PlaceList::of([0; 4], 0);
         let obligation = Obligation {
             side: Side::Left,
             transition: 0,
-            bag,
+            bag: PlaceList::new(),
         };
         AnsweredObligation {
             obligation,
@@ -42,9 +42,8 @@ impl AnsweredObligation {
 /// Why a relation is refused.
 #[derive(Clone, Copy)]
 pub enum VerdictRefusal {
-    /// 34: the relation is no place bisimulation. With it come the side, the transition and the bag of the first
-    /// obligation that has no answer.
-    Unsound(Side, u8, PlaceList),
+    /// 34: the relation is no place bisimulation. With it comes the first obligation that has no answer.
+    Unsound(Obligation),
 }
 
 impl VerdictRefusal {
@@ -53,7 +52,7 @@ impl VerdictRefusal {
         ensures { result ≡ verdict_number self.now }
     {
         match self {
-            VerdictRefusal::Unsound(_, _, _) => 34,
+            VerdictRefusal::Unsound(_) => 34,
         }
     }
 
@@ -62,17 +61,21 @@ impl VerdictRefusal {
         ensures { obligation_at result ≡ unsound_at self }
     {
         match self {
-            VerdictRefusal::Unsound(side, transition, bag) => Obligation {
-                side,
-                transition,
-                bag,
-            },
+            VerdictRefusal::Unsound(obligation) => obligation,
         }
     }
 }
 
+impl From<Obligation> for VerdictRefusal {
+    ghost from_gives = { λ o r. r ≡ Unsound o };
+
+    fn from(obligation: Obligation) -> VerdictRefusal {
+        VerdictRefusal::Unsound(obligation)
+    }
+}
+
 /// Why the list of answers is refused.
-#[derive(Clone, Copy)]
+#[derive(Clone, Copy, Debug, PartialEq, Eq)]
 pub enum ListRefusal {
     /// 21: the caller's entries are too few.
     TooFew,

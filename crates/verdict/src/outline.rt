@@ -2,34 +2,18 @@
 ghost use Rattle.std.specs.Prelude.{◌≡◌, ℕ, ◌+◌, ◌≤◌, List, ◌++◌, length};
 ghost use Rattle.bisimulation.specs.Lists.{pile};
 ghost use Rattle.nets.specs.Tables.{table_meaning};
-ghost use Rattle.verdict.specs.Search.{flow, flow_list, Outlined};
 ghost use Rattle.verdict.specs.ShortLists.{listed};
+ghost use Rattle.verdict.specs.Relating.{flow_list, FlowsOf, Outlined};
 
 use crate::short_list::ShortList;
-use nets::{Net, Table};
+use nets::{Net, Role, Table};
+use std::array;
 
-/// What a transition takes, or what it gives.
+/// What a transition takes, and what it gives.
 #[derive(Clone, Copy)]
-pub enum Role {
-    Takes,
-    Gives,
-}
-
-/// The lists of what each transition takes and gives.
-#[derive(Clone, Copy)]
-pub struct Outline {
-    pub takes: [ShortList; 32],
-    pub gives: [ShortList; 32],
-}
-
-/// The weight of a transition at a place.
-fn weight(net: &Table, role: Role, t: u8, p: u8) -> u8
-    ensures { result ≡ flow (table_meaning net.now) role t p }
-{
-    match role {
-        Role::Takes => net.input(t, p),
-        Role::Gives => net.output(t, p),
-    }
+pub struct Flows {
+    pub takes: ShortList,
+    pub gives: ShortList,
 }
 
 /// A place more, `times` times.
@@ -38,30 +22,34 @@ pub(crate) fn pile_on(list: &mut ShortList, place: u8, times: u8)
     ensures { (zs : List ℕ) → listed list.new ++ zs ≡ listed list.old ++ pile times place zs }
 {
     for _ in 0..times {
-        list.push(place);
+        let _ = list.push(place);
     }
 }
 
 /// What a transition takes or gives, as an ascending list.
-pub(crate) fn flow_list(net: &Table, role: Role, t: u8) -> ShortList
+fn flow_list(net: &Table, role: Role, t: u8) -> ShortList
     ensures { listed result ≡ flow_list (table_meaning net.now) role t }
 {
     let mut list = ShortList::new();
     for p in 0..net.places() {
-        pile_on(&mut list, p, weight(net, role, t, p));
+        pile_on(&mut list, p, net.weight(role, t, p));
     }
     list
 }
 
+/// What a transition takes, and what it gives.
+pub(crate) fn flows_of(net: &Table, t: u8) -> Flows
+    ensures { FlowsOf (table_meaning net.now) t result }
+{
+    Flows {
+        takes: flow_list(net, Role::Input, t),
+        gives: flow_list(net, Role::Output, t),
+    }
+}
+
 /// The lists of all transitions.
-pub(crate) fn outline_of(net: &Table) -> Outline
+pub(crate) fn outline_of(net: &Table) -> [Flows; 32]
     ensures { Outlined (table_meaning net.now) result }
 {
-    let mut takes = [ShortList::new(); 32];
-    let mut gives = [ShortList::new(); 32];
-    for t in 0..32u8 {
-        takes[t as usize] = flow_list(net, Role::Takes, t);
-        gives[t as usize] = flow_list(net, Role::Gives, t);
-    }
-    Outline { takes, gives }
+    array::from_fn(|t| flows_of(net, t as u8))
 }

@@ -1,8 +1,13 @@
 //! A list of places, handed out.
-ghost use Rattle.std.specs.Prelude.{◌≡◌, ◌≤◌, length, take};
+ghost use Rattle.std.specs.Prelude.{◌≡◌, [], take};
 ghost use Rattle.verdict.specs.PlaceLists.{places_in};
+ghost use Rattle.verdict.specs.ShortLists.{listed};
+
+use crate::short_list::ShortList;
 
 /// The bag of an obligation: an ascending list of up to four places, each as often as the bag holds it.
+// It is no `Sequence`, and has no ghost field: the checker takes no enum apart that holds a struct with one, and a refusal
+// holds this list.
 #[derive(Clone, Copy)]
 pub struct PlaceList {
     items: [u8; 4],
@@ -13,18 +18,27 @@ pub struct PlaceList {
 fn front(items: &[u8], len: usize) -> &[u8]
     ensures { result.now ≡ take len items.now }
 {
-    if len < items.len() {
-        &items[0..len]
-    } else {
-        items
-    }
+    items.get(..len).unwrap_or(items)
 }
 
 impl PlaceList {
-    /// The first `len` of four places.
-    pub(crate) fn of(items: [u8; 4], len: usize) -> PlaceList
-        ensures { places_in result ≡ take len items }
+    /// The list with no places.
+    pub(crate) fn new() -> PlaceList
+        ensures { places_in result ≡ [] }
     {
+        PlaceList {
+            items: [0; 4],
+            len: 0,
+        }
+    }
+
+    /// The places of a short list.
+    pub(crate) fn of(list: ShortList) -> PlaceList
+        ensures { places_in result ≡ listed list }
+    {
+        let mut items = [0; 4];
+        let len = list.len();
+        items[..len].copy_from_slice(list.as_slice());
         PlaceList { items, len }
     }
 

@@ -1,12 +1,5 @@
-ghost use Rattle.std.specs.Prelude.{◌≡◌, ◌≤◌, length};
+//! A list of places, to work with.
+use bags::Sequence;
 
-/// A list of up to four places: what a transition takes or gives, in ascending order.
-#[derive(Clone, Copy)]
-pub struct ShortList {
-    items: [u8; 4],
-    len: usize,
-    ghost whole: { length items ≡ 4 },
-    ghost few: { len ≤ 4 },
-}
-
-mod methods;
+/// A list of up to four places: what a transition takes or gives, in ascending order, or the first places of a bag.
+pub type ShortList = Sequence<u8, 4>;

@@ -1,81 +1,88 @@
 //! The bags of the obligations of one transition, gone through in dictionary order.
-ghost use Rattle.std.specs.Prelude.{◌≡◌, ℕ, ◌+◌, ◌-◌, ◌^◌, ◌<◌, ◌≤◌, true, [], ◌∷◌, ◌++◌, length, take};
+ghost use Rattle.std.specs.Prelude.{◌≡◌, ℕ, ◌+◌, ◌-◌, ◌^◌, ◌<◌, ◌≤◌, true, [], ◌∷◌, ◌++◌, length, List, Option, Bool, is_some, IfOk};
 ghost use Rattle.bisimulation.specs.Lists.{lists_from};
 ghost use Rattle.bisimulation.specs.Verdicts.{obliges};
-ghost use Rattle.verdict.specs.Search.{bags_after, mover_of, other_of, related_by, tested, Passed, Ready};
-ghost use Rattle.verdict.specs.ShortLists.{listed};
+ghost use Rattle.verdict.specs.ShortLists.{ShortList, listed};
+ghost use Rattle.verdict.specs.Search.{bags_after, mover_of, other_of, related_by, Passed};
 
-use crate::answers::find_answer;
 use crate::job::Job;
 use crate::matching::completes;
+use crate::obligation::Obligation;
+use crate::place_list::PlaceList;
+use crate::short_list::ShortList;
+use nets::Net;
 
-/// Counts a bag; none where it is to have an answer and has none.
-fn pass(job: &Job, ys: &[u8], count: u32) -> Option<u32>
-    requires ready { Ready job.now }
+/// Counts a bag; or gives its obligation, where it does not pass.
+fn pass<F: Fn(ShortList) -> bool>(
+    job: &Job,
+    passes: &F,
+    bag: ShortList,
+    count: u32,
+) -> Result<u32, Obligation>
+    requires callable { F.IsAlwaysCallable passes.now }
     requires room { count + 1 < 2 ^ 32 }
-    requires known { obliges (mover_of job.now) (related_by job.now) job.now.t ys.now ≡ true }
-    ensures { Passed (tested job.now) (length ys.now) count (ys.now ∷ []) ys.now result }
+    ensures counted { IfOk result (λ n. n ≡ count + 1) }
+    ensures passed { (g : List ℕ → Option ℕ) → ((x : ShortList) (b : Bool) → F.post passes.now x b → b ≡ is_some (g (listed x))) → Passed job.now g count (listed bag ∷ []) result }
 {
-    if !job.judging {
-        return Some(count + 1);
+    if passes(bag) {
+        return Ok(count + 1);
     }
-    match find_answer(job, ys) {
-        Some(_) => Some(count + 1),
-        None => None,
-    }
+    Err(Obligation {
+        side: job.half.side,
+        transition: job.t,
+        bag: PlaceList::of(bag),
+    })
 }
 
-/// Goes through the bags that begin with the first `n` places chosen and then `from`, and go on with `left` places,
-/// none of them below `from`; only if that beginning can be completed.
+/// Goes through the bags that begin with the places chosen and then `from`, and go on with `left` places, none of them
+/// below `from`; only if that beginning can be completed.
 #[cycle(first_open_go_down)]
-fn go_down(
+fn go_down<F: Fn(ShortList) -> bool>(
     job: &Job,
-    chosen: &mut [u8; 4],
-    n: usize,
+    passes: &F,
+    chosen: ShortList,
     from: u8,
     left: usize,
     count: u32,
-) -> Option<u32>
-    requires ready { Ready job.now }
-    requires sized { n + 1 + left ≡ length (listed job.now.takes) }
-    requires room { count + length (lists_from (job.now.places - from) from left) < 2 ^ 32 }
-    ensures kept { take n chosen.new ≡ take n chosen.old }
-    ensures passed { Passed (tested job.now) (n + 1 + left) count (bags_after (mover_of job.now) (related_by job.now) job.now.t (take n chosen.old ++ from ∷ []) (job.now.places - from) from left) chosen.new result }
+) -> Result<u32, Obligation>
+    requires callable { F.IsAlwaysCallable passes.now }
+    requires sized { length (listed chosen) + 1 + left ≡ length (listed job.now.flows.takes) }
+    requires room { count + length (lists_from ((other_of job.now).places - from) from left) < 2 ^ 32 }
+    ensures counted { IfOk result (λ n. n ≡ count + length (bags_after (mover_of job.now) (related_by job.now) job.now.t (listed chosen ++ from ∷ []) ((other_of job.now).places - from) from left)) }
+    ensures passed { (g : List ℕ → Option ℕ) → ((x : ShortList) (b : Bool) → F.post passes.now x b → b ≡ is_some (g (listed x))) → Passed job.now g count (bags_after (mover_of job.now) (related_by job.now) job.now.t (listed chosen ++ from ∷ []) ((other_of job.now).places - from) from left) result }
 {
-    chosen[n] = from;
-    if !completes(&job.pairs, &job.tops, job.takes, &chosen[0..n + 1], 0, from) {
-        return Some(count);
+    let mut chosen = chosen;
+    let _ = chosen.push(from);
+    if !completes(job.half, job.flows.takes, chosen.as_slice(), from) {
+        return Ok(count);
     }
-    first_open(job, chosen, n + 1, from, left, count)
+    first_open(job, passes, chosen, from, left, count)
 }
 
-/// Goes through the bags that begin with the first `n` places chosen and go on with `left` places, none of them below
-/// `from`. Gives how many there are, added to `count`, where all have answers; or none, and the first that has no
-/// answer is chosen.
+/// Goes through the bags that begin with the places chosen and go on with `left` places, none of them below `from`. Gives
+/// how many there are, added to `count`, where all pass; or the obligation of the first that does not.
 #[cycle(first_open_go_down)]
-pub(crate) fn first_open(
+pub(crate) fn first_open<F: Fn(ShortList) -> bool>(
     job: &Job,
-    chosen: &mut [u8; 4],
-    n: usize,
+    passes: &F,
+    chosen: ShortList,
     from: u8,
     left: usize,
     count: u32,
-) -> Option<u32>
-    requires ready { Ready job.now }
-    requires sized { n + left ≡ length (listed job.now.takes) }
-    requires room { count + length (lists_from (job.now.places - from) from left) < 2 ^ 32 }
-    requires known { left ≡ 0 → obliges (mover_of job.now) (related_by job.now) job.now.t (take n chosen.old) ≡ true }
-    ensures kept { take n chosen.new ≡ take n chosen.old }
-    ensures passed { Passed (tested job.now) (n + left) count (bags_after (mover_of job.now) (related_by job.now) job.now.t (take n chosen.old) (job.now.places - from) from left) chosen.new result }
+) -> Result<u32, Obligation>
+    requires callable { F.IsAlwaysCallable passes.now }
+    requires sized { length (listed chosen) + left ≡ length (listed job.now.flows.takes) }
+    requires room { count + length (lists_from ((other_of job.now).places - from) from left) < 2 ^ 32 }
+    requires known { left ≡ 0 → obliges (mover_of job.now) (related_by job.now) job.now.t (listed chosen) ≡ true }
+    ensures counted { IfOk result (λ n. n ≡ count + length (bags_after (mover_of job.now) (related_by job.now) job.now.t (listed chosen) ((other_of job.now).places - from) from left)) }
+    ensures passed { (g : List ℕ → Option ℕ) → ((x : ShortList) (b : Bool) → F.post passes.now x b → b ≡ is_some (g (listed x))) → Passed job.now g count (bags_after (mover_of job.now) (related_by job.now) job.now.t (listed chosen) ((other_of job.now).places - from) from left) result }
 {
     if left == 0 {
-        return pass(job, &chosen[0..n], count);
+        return pass(job, passes, chosen, count);
     }
-    if from >= job.places {
-        return Some(count);
+    if from >= job.half.other.places() {
+        return Ok(count);
     }
-    match go_down(job, chosen, n, from, left - 1, count) {
-        Some(seen) => first_open(job, chosen, n, from + 1, left, seen),
-        None => None,
-    }
+    let seen = go_down(job, passes, chosen, from, left - 1, count)?;
+    first_open(job, passes, chosen, from + 1, left, seen)
 }

@@ -1,8 +1,8 @@
 //! The obligations of one transition with their answers, written to the caller's slice.
-ghost use Rattle.std.specs.Prelude.{◌≡◌, ℕ, ◌+◌, ◌-◌, ◌<◌, ◌≤◌, true, [], ◌∷◌, ◌++◌, map, length, take};
+ghost use Rattle.std.specs.Prelude.{◌≡◌, ℕ, ◌+◌, ◌-◌, ◌<◌, ◌≤◌, true, [], ◌∷◌, ◌++◌, map, length};
 ghost use Rattle.bisimulation.specs.Verdicts.{obliges};
 ghost use Rattle.verdict.specs.Results.{Wrote};
-ghost use Rattle.verdict.specs.Search.{bags_after, mover_of, related_by, Ready};
+ghost use Rattle.verdict.specs.Search.{bags_after, mover_of, other_of, related_by};
 ghost use Rattle.verdict.specs.Entries.{entry};
 ghost use Rattle.verdict.specs.ShortLists.{listed};
 
@@ -11,77 +11,72 @@ use crate::job::Job;
 use crate::matching::completes;
 use crate::obligation::{AnsweredObligation, Obligation};
 use crate::place_list::PlaceList;
+use crate::short_list::ShortList;
+use nets::Net;
 
-/// Writes the bag of the first `n` places chosen, with its answer.
-fn write_one(job: &Job, chosen: &[u8; 4], n: usize, at: usize, out: &mut [AnsweredObligation])
-    requires ready { Ready job.now }
-    requires few { n ≤ 4 }
+/// Writes a bag with its answer.
+fn write_one(job: &Job, bag: ShortList, at: usize, out: &mut [AnsweredObligation])
     requires room { at < length out.old }
-    requires known { obliges (mover_of job.now) (related_by job.now) job.now.t (take n chosen.now) ≡ true }
-    ensures { Wrote at out.old (entry job.now (take n chosen.now) ∷ []) out.new }
+    requires known { obliges (mover_of job.now) (related_by job.now) job.now.t (listed bag) ≡ true }
+    ensures { Wrote at out.old (entry job.now (listed bag) ∷ []) out.new }
 {
-    let answer = find_answer(job, &chosen[0..n]);
+    let answer = find_answer(job, bag.as_slice());
     let obligation = Obligation {
-        side: job.side,
+        side: job.half.side,
         transition: job.t,
-        bag: PlaceList::of(*chosen, n),
+        bag: PlaceList::of(bag),
     };
     out[at] = AnsweredObligation { obligation, answer };
 }
 
-/// Writes the bags that begin with the first `n` places chosen and then `from`, and go on with `left` places, none of
-/// them below `from`; only if that beginning can be completed.
+/// Writes the bags that begin with the places chosen and then `from`, and go on with `left` places, none of them below
+/// `from`; only if that beginning can be completed.
 #[cycle(write_down_write_from)]
 fn write_down(
     job: &Job,
-    chosen: &mut [u8; 4],
-    n: usize,
+    chosen: ShortList,
     from: u8,
     left: usize,
     at: usize,
     out: &mut [AnsweredObligation],
 ) -> usize
-    requires ready { Ready job.now }
-    requires sized { n + 1 + left ≡ length (listed job.now.takes) }
-    requires room { at + length (bags_after (mover_of job.now) (related_by job.now) job.now.t (take n chosen.old ++ from ∷ []) (job.now.places - from) from left) ≤ length out.old }
-    ensures kept { take n chosen.new ≡ take n chosen.old }
-    ensures next { result ≡ at + length (bags_after (mover_of job.now) (related_by job.now) job.now.t (take n chosen.old ++ from ∷ []) (job.now.places - from) from left) }
-    ensures written { Wrote at out.old (map (entry job.now) (bags_after (mover_of job.now) (related_by job.now) job.now.t (take n chosen.old ++ from ∷ []) (job.now.places - from) from left)) out.new }
+    requires sized { length (listed chosen) + 1 + left ≡ length (listed job.now.flows.takes) }
+    requires room { at + length (bags_after (mover_of job.now) (related_by job.now) job.now.t (listed chosen ++ from ∷ []) ((other_of job.now).places - from) from left) ≤ length out.old }
+    ensures next { result ≡ at + length (bags_after (mover_of job.now) (related_by job.now) job.now.t (listed chosen ++ from ∷ []) ((other_of job.now).places - from) from left) }
+    ensures written { Wrote at out.old (map (entry job.now) (bags_after (mover_of job.now) (related_by job.now) job.now.t (listed chosen ++ from ∷ []) ((other_of job.now).places - from) from left)) out.new }
 {
-    chosen[n] = from;
-    if !completes(&job.pairs, &job.tops, job.takes, &chosen[0..n + 1], 0, from) {
+    let mut chosen = chosen;
+    let _ = chosen.push(from);
+    if !completes(job.half, job.flows.takes, chosen.as_slice(), from) {
         return at;
     }
-    write_from(job, chosen, n + 1, from, left, at, out)
+    write_from(job, chosen, from, left, at, out)
 }
 
-/// Writes the bags that begin with the first `n` places chosen and go on with `left` places, none of them below `from`,
-/// from the number `at` on, and gives the number behind the last.
+/// Writes the bags that begin with the places chosen and go on with `left` places, none of them below `from`, from the
+/// number `at` on, and gives the number behind the last.
 #[cycle(write_down_write_from)]
 pub(crate) fn write_from(
     job: &Job,
-    chosen: &mut [u8; 4],
-    n: usize,
+    chosen: ShortList,
     from: u8,
     left: usize,
     at: usize,
     out: &mut [AnsweredObligation],
 ) -> usize
-    requires ready { Ready job.now }
-    requires sized { n + left ≡ length (listed job.now.takes) }
-    requires room { at + length (bags_after (mover_of job.now) (related_by job.now) job.now.t (take n chosen.old) (job.now.places - from) from left) ≤ length out.old }
-    requires known { left ≡ 0 → obliges (mover_of job.now) (related_by job.now) job.now.t (take n chosen.old) ≡ true }
-    ensures kept { take n chosen.new ≡ take n chosen.old }
-    ensures next { result ≡ at + length (bags_after (mover_of job.now) (related_by job.now) job.now.t (take n chosen.old) (job.now.places - from) from left) }
-    ensures written { Wrote at out.old (map (entry job.now) (bags_after (mover_of job.now) (related_by job.now) job.now.t (take n chosen.old) (job.now.places - from) from left)) out.new }
+    requires sized { length (listed chosen) + left ≡ length (listed job.now.flows.takes) }
+    requires room { at + length (bags_after (mover_of job.now) (related_by job.now) job.now.t (listed chosen) ((other_of job.now).places - from) from left) ≤ length out.old }
+    requires known { left ≡ 0 → obliges (mover_of job.now) (related_by job.now) job.now.t (listed chosen) ≡ true }
+    ensures next { result ≡ at + length (bags_after (mover_of job.now) (related_by job.now) job.now.t (listed chosen) ((other_of job.now).places - from) from left) }
+    ensures written { Wrote at out.old (map (entry job.now) (bags_after (mover_of job.now) (related_by job.now) job.now.t (listed chosen) ((other_of job.now).places - from) from left)) out.new }
 {
     if left == 0 {
-        write_one(job, chosen, n, at, out);
+        write_one(job, chosen, at, out);
         return at + 1;
     }
-    if from >= job.places {
+    if from >= job.half.other.places() {
         return at;
     }
-    let next = write_down(job, chosen, n, from, left - 1, at, out);
-    write_from(job, chosen, n, from + 1, left, next, out)
+    let next = write_down(job, chosen, from, left - 1, at, out);
+    write_from(job, chosen, from + 1, left, next, out)
 }

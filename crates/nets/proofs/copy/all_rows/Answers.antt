@@ -1,7 +1,7 @@
 use Rattle.std.proofs.Common.{rules, ◌≡◌, refl, arith}
 use Rattle.nets.specs.Copies.{RowOf}
 use Rattle.nets.specs.Rows.{blank}
-use Rattle.nets.proofs.Made.{made_at}
+use Rattle.nets.specs.Made.{made_at}
 use Rattle.nets.proofs.copy.all_rows.Goals as goal
 
 pub returns : goal.returns

@@ -1,39 +1,44 @@
-use Rattle.std.proofs.Common.{ap, ◌∙◌, arith}
+use Rattle.std.proofs.Common.{Ok, Err, refl, ◌∙◌, arith}
 use Rattle.places.specs.Sets.{turned}
 use Rattle.places.specs.Meanings.{relation_of}
+use Rattle.places.specs.declared.Side.TheVariants.{Left, Right}
 use Rattle.nets.specs.Tables.{table_meaning}
-use Rattle.bisimulation.specs.Verdicts.{refused}
-use Rattle.verdict.specs.Search.{inside, pairs_of}
-use Rattle.verdict.proofs.Whole.{pairs_between, left_refused, right_refused, both_accepted, counted_left}
+use Rattle.bisimulation.specs.Bisimulation.{between}
+use Rattle.bisimulation.specs.Verdicts.{obligations_below}
+use Rattle.verdict.specs.Results.{JudgedBelow}
+use Rattle.verdict.proofs.Whole.{faced, refused_as, left_refused, right_refused, both_accepted, counted_of}
 use Rattle.verdict.proofs.judging.both_sides.Goals as goal
 
-pub side_open-requires-in-Ok : goal.side_open-requires-in-Ok
-side_open-requires-in-Ok c =
-    let n = table_meaning c.args.left.now in
-    let k = table_meaning c.args.right.now in
-    let S = inside c.places.result c.places-2.result (relation_of c.args.relation.now) in
-    record { room = omega (arith, c.in-Ok.ensures.few, counted_left n k S c.in-Ok.count c.in-Ok.ensures.judged) }
-
-pub returns-in-Ok-side_open : goal.returns-in-Ok-side_open
-returns-in-Ok-side_open c =
+pub returns-in_err-count : goal.returns-in_err-count
+returns-in_err-count c =
     let n = table_meaning c.args.left.now in
     let k = table_meaning c.args.right.now in
     let R = relation_of c.args.relation.now in
-    let forth = pairs_between n k R c.places.result c.places-2.result c.places.ensures c.places-2.ensures in
-    both_accepted n k R (inside c.places.result c.places-2.result R) (pairs_of c.turned.result) forth (c.turned.ensures ∙ ap turned forth) c.in-Ok.count c.in-Ok-side_open.total c.in-Ok.ensures.judged c.in-Ok-side_open.ensures.judged
+    let o = c.in_err-count.field-0.0 in
+    let left = faced Left n k R c.of.result c.of.ensures (λ s m p S. JudgedBelow s m p S 0 (obligations_below s m p S m.transitions) (Err o)) c.in_err-count.ensures.judged in
+    refused_as c.from_residual.result o c.from_residual.ensures.1 ∙ left_refused n k R (between n k R) (turned (between n k R)) refl refl o left
 
-pub returns-in-Err-side_open : goal.returns-in-Err-side_open
-returns-in-Err-side_open c =
+pub side_open-requires-2 : goal.side_open-requires-2
+side_open-requires-2 c = record { room = omega (arith, c.in_ok-count.ensures.few, counted_of c.of.result (table_meaning c.of.result.mover.now).transitions c.in_ok-count.count c.in_ok-count.ensures.judged) }
+
+pub returns-in_err-total : goal.returns-in_err-total
+returns-in_err-total c =
     let n = table_meaning c.args.left.now in
     let k = table_meaning c.args.right.now in
     let R = relation_of c.args.relation.now in
-    let forth = pairs_between n k R c.places.result c.places-2.result c.places.ensures c.places-2.ensures in
-    ap refused c.unsound.ensures ∙ right_refused n k R (inside c.places.result c.places-2.result R) (pairs_of c.turned.result) forth (c.turned.ensures ∙ ap turned forth) c.in-Ok.count c.in-Err-side_open.obligation c.in-Ok.ensures.judged c.in-Err-side_open.ensures.judged
+    let o = c.in_err-total.field-0.0 in
+    let count = c.in_ok-count.count in
+    let left = faced Left n k R c.of.result c.of.ensures (λ s m p S. JudgedBelow s m p S 0 (obligations_below s m p S m.transitions) (Ok count)) c.in_ok-count.ensures.judged in
+    let right = faced Right n k R c.of-2.result c.of-2.ensures (λ s m p S. JudgedBelow s m p S count (obligations_below s m p S m.transitions) (Err o)) c.in_err-total.ensures.judged in
+    refused_as c.from_residual-in_err-total.result o c.from_residual-in_err-total.ensures.1 ∙ right_refused n k R (between n k R) (turned (between n k R)) refl refl count o left right
 
-pub returns-in-Err : goal.returns-in-Err
-returns-in-Err c =
+pub returns : goal.returns
+returns c =
     let n = table_meaning c.args.left.now in
     let k = table_meaning c.args.right.now in
     let R = relation_of c.args.relation.now in
-    let forth = pairs_between n k R c.places.result c.places-2.result c.places.ensures c.places-2.ensures in
-    ap refused c.unsound-in-Err.ensures ∙ left_refused n k R (inside c.places.result c.places-2.result R) (pairs_of c.turned.result) forth (c.turned.ensures ∙ ap turned forth) c.in-Err.obligation c.in-Err.ensures.judged
+    let count = c.in_ok-count.count in
+    let total = c.in_ok-total.total in
+    let left = faced Left n k R c.of.result c.of.ensures (λ s m p S. JudgedBelow s m p S 0 (obligations_below s m p S m.transitions) (Ok count)) c.in_ok-count.ensures.judged in
+    let right = faced Right n k R c.of-2.result c.of-2.ensures (λ s m p S. JudgedBelow s m p S count (obligations_below s m p S m.transitions) (Ok total)) c.in_ok-total.ensures.judged in
+    both_accepted n k R (between n k R) (turned (between n k R)) refl refl count total left right

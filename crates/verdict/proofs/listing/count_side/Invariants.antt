@@ -1,7 +1,7 @@
 use Rattle.std.proofs.Common.{◌≡◌, length}
 use Rattle.nets.specs.Tables.{table_meaning}
 use Rattle.bisimulation.specs.Verdicts.{obligations_below}
-use Rattle.verdict.specs.Search.{pairs_of}
+use Rattle.verdict.specs.Relating.{pairs_of}
 use Rattle.verdict.proofs.listing.count_side.Given as goal
 
 abbrev pub invariant-loop-t : goal.invariant-loop-t

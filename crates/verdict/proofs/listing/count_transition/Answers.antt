@@ -1,10 +1,12 @@
-use Rattle.std.proofs.Common.{◌+◌, ◌-◌, [], length, Some, sym, refl, ap, ◌∙◌, arith}
+use Rattle.std.proofs.Common.{◌≡◌, ◌+◌, ◌-◌, true, length, Some, sym, ap, ◌∙◌, subst, arith, rules}
 use native.Mathlib.Nat.{sub-zero}
-use Rattle.std.proofs.lemmas.Bool.{lt-ltb}
+use Rattle.bags.specs.Items.{items_few}
 use Rattle.nets.specs.Tables.{table_meaning, table_limits}
-use Rattle.verdict.specs.Search.{pairs_of, bags_after}
-use Rattle.verdict.proofs.Halves.{blocked_bags, none_obliges, few_lists}
-use Rattle.verdict.proofs.Lists.{counted_some, counted_none}
+use Rattle.bisimulation.specs.Verdicts.{obliges}
+use Rattle.verdict.specs.Relating.{pairs_of}
+use Rattle.verdict.specs.Search.{bags_after, bags_of, mover_of, other_of, related_by}
+use Rattle.verdict.proofs.Halves.{all_bags, blocked_bags, none_obliges, few_lists}
+use Rattle.verdict.proofs.Lists.{counted_all}
 use Rattle.verdict.proofs.listing.count_transition.Goals as goal
 
 pub returns-then-is_blocked : goal.returns-then-is_blocked
@@ -12,32 +14,22 @@ returns-then-is_blocked c =
     let h = c.args.half.now in
     omega (arith, ap length (blocked_bags (table_meaning h.mover.now) (table_meaning h.other.now) (pairs_of h.pairs) c.args.t c.if-is_blocked.ensures))
 
-pub first_open-requires : goal.first_open-requires
-first_open-requires c =
-    let h = c.args.half.now in
-    let n = table_meaning h.mover.now in
-    let blocked = c.if-is_blocked.ensures in
-    record {
-      ready = record {
-        outlined = c.requires.outlined;
-        topped = c.requires.topped;
-        places_are = c.places.ensures;
-        takes_are = c.flow_list-takes.ensures;
-        gives_are = c.flow_list.ensures;
-        there = lt-ltb c.args.t n.transitions c.requires.there;
-        free = sym blocked;
-      };
-      sized = omega (arith, c.len.ensures.value);
-      room = omega (arith, c.requires.room, few_lists (c.places.result - 0) c.len.result (omega (arith, c.places.ensures, (table_limits h.other.now).few_places)) c.len.ensures.few);
-      known = λ z. none_obliges n (pairs_of h.pairs) c.args.t c.requires.there blocked (sym (ap length c.flow_list-takes.ensures) ∙ sym c.len.ensures.value ∙ z);
-    }
+pub first_open-requires-clause-room : goal.first_open-requires-clause-room
+first_open-requires-clause-room c =
+    let j = c.of-job.result in
+    omega (arith, c.requires.room, few_lists ((other_of j).places - 0) c.len-size.result (omega (arith, (table_limits j.half.now.other.now).few_places)) (omega (arith, c.len-size.ensures, items_few j.flows.takes)))
 
-pub returns-in-Some : goal.returns-in-Some
-returns-in-Some c =
-    let h = c.args.half.now in
-    counted_some (λ ys. Some 0) (table_meaning h.mover.now) (table_meaning h.other.now) (pairs_of h.pairs) c.args.t c.len.result (c.places.result - 0) c.args.count c.in-Some.seen c.first_open.new.chosen (c.len.ensures.value ∙ ap length c.flow_list-takes.ensures) (sub-zero c.places.result ∙ c.places.ensures) c.in-Some.ensures.passed
+pub first_open-requires-clause-known : goal.first_open-requires-clause-known
+first_open-requires-clause-known c z =
+    let j = c.of-job.result in
+    subst (λ p. obliges (mover_of j) (related_by j) j.t p ≡ true) (sym c.new.ensures) (none_obliges (mover_of j) (related_by j) j.t j.there (sym j.free) (sym (ap length j.taken) ∙ sym c.len-size.ensures ∙ z))
 
-pub returns-in-None : goal.returns-in-None
-returns-in-None c =
-    let h = c.args.half.now in
-    absurd (counted_none (λ ys. Some 0) (λ ys. refl) (0 + c.len.result) c.args.count (bags_after (table_meaning h.mover.now) (pairs_of h.pairs) c.args.t [] (c.places.result - 0) 0 c.len.result) c.first_open.new.chosen c.in-None.ensures.passed)
+pub returns : goal.returns
+returns c =
+    let j = c.of-job.result in
+    let r = c.first_open.result in
+    let d = (other_of j).places - 0 in
+    let passed = c.first_open.ensures.passed (λ ys. Some 0) (λ x b q. search rules) in
+    let bags = ap (λ p. bags_after (mover_of j) (related_by j) j.t p d 0 c.len-size.result) c.new.ensures ∙ all_bags (mover_of j) (other_of j) (related_by j) j.t c.len-size.result d (c.len-size.ensures ∙ ap length j.taken) (sub-zero (other_of j).places) in
+    let own = counted_all j c.args.count _ r passed in
+    c.unwrap_or.ensures ∙ own ∙ ap (λ bs. c.args.count + length bs) bags ∙ ap (λ k. c.args.count + length (bags_of j.half.now k)) c.of-job.ensures.t ∙ ap (λ h. c.args.count + length (bags_of h c.args.t)) c.of-job.ensures.half

@@ -1,6 +1,6 @@
 use Rattle.std.proofs.Common.{◌≡◌, ◌<◌, subst, arith}
 use Rattle.nets.specs.Tables.{table_meaning}
-use Rattle.verdict.specs.Search.{pairs_of}
+use Rattle.verdict.specs.Relating.{pairs_of}
 use Rattle.verdict.proofs.Lists.{WrittenTo, written_none, written_more, written_long, still_room}
 use Rattle.verdict.proofs.listing.write_side.Goals as goal
 
@@ -15,8 +15,6 @@ write_transition-next-requires c =
     let n = table_meaning h.mover.now in
     let l : c.loop-t.t < n.transitions = omega (arith, c.transitions-t-end.ensures, c.loop-t-test.true) in
     record {
-      outlined = c.outline_of-outline.ensures;
-      topped = c.tops-tops.ensures;
       there = l;
       room = omega (arith, c.requires.room, c.loop-t.invariant.1.counted, still_room h.side n (table_meaning h.other.now) (pairs_of h.pairs) c.loop-t.t n.transitions l, written_long c.loop-t.invariant.1);
     }

@@ -1,10 +1,12 @@
-use Rattle.std.proofs.Common.{◌+◌, ◌-◌, map, length, sym, refl, ap, ◌∙◌, subst, arith}
+use Rattle.std.proofs.Common.{◌≡◌, ◌+◌, ◌-◌, true, map, length, sym, refl, ap, ◌∙◌, subst, arith}
 use native.Mathlib.Nat.{sub-zero}
-use Rattle.std.proofs.lemmas.Bool.{lt-ltb}
 use Rattle.nets.specs.Tables.{table_meaning}
+use Rattle.bisimulation.specs.Verdicts.{obliges}
+use Rattle.verdict.specs.Relating.{pairs_of}
+use Rattle.verdict.specs.Results.{at}
 use Rattle.bisimulation.specs.Verdicts.{answer_for, bags_for}
-use Rattle.verdict.specs.Results.{at, Wrote, with_answers}
-use Rattle.verdict.specs.Search.{pairs_of}
+use Rattle.verdict.specs.Results.{Wrote, with_answers}
+use Rattle.verdict.specs.Search.{bags_after, bags_of, mover_of, other_of, related_by, WroteFor}
 use Rattle.verdict.proofs.Halves.{all_bags, blocked_bags, none_obliges}
 use Rattle.verdict.proofs.Lists.{entries_are}
 use Rattle.verdict.proofs.listing.write_transition.Goals as goal
@@ -18,33 +20,29 @@ returns-then-is_blocked c =
       written = λ f agrees. subst (λ bags. Wrote c.args.start c.args.out.now (with_answers f (map (at h.side c.args.t) bags)) c.args.out.now) (sym none) refl;
     }
 
-pub write_from-requires : goal.write_from-requires
-write_from-requires c =
-    let h = c.args.half.now in
-    let n = table_meaning h.mover.now in
-    let blocked = c.if-is_blocked.ensures in
-    record {
-      ready = record {
-        outlined = c.requires.outlined;
-        topped = c.requires.topped;
-        places_are = c.places.ensures;
-        takes_are = c.flow_list-takes.ensures;
-        gives_are = c.flow_list.ensures;
-        there = lt-ltb c.args.t n.transitions c.requires.there;
-        free = sym blocked;
-      };
-      sized = omega (arith, c.len.ensures.value);
-      room = omega (arith, c.requires.room, ap length (all_bags n (table_meaning h.other.now) (pairs_of h.pairs) c.args.t c.len.result (c.places.result - 0) (c.len.ensures.value ∙ ap length c.flow_list-takes.ensures) (sub-zero c.places.result ∙ c.places.ensures)));
-      known = λ z. none_obliges n (pairs_of h.pairs) c.args.t c.requires.there blocked (sym (ap length c.flow_list-takes.ensures) ∙ sym c.len.ensures.value ∙ z);
-    }
+pub write_from-requires-clause-room : goal.write_from-requires-clause-room
+write_from-requires-clause-room c =
+    let j = c.of-job.result in
+    let d = (other_of j).places - 0 in
+    let bags = ap (λ p. bags_after (mover_of j) (related_by j) j.t p d 0 c.len.result) c.new.ensures ∙ all_bags (mover_of j) (other_of j) (related_by j) j.t c.len.result d (c.len.ensures ∙ ap length j.taken) (sub-zero (other_of j).places) in
+    omega (arith, c.requires.room, ap length bags, ap (λ k. length (bags_of j.half.now k)) c.of-job.ensures.t, ap (λ h. length (bags_of h c.args.t)) c.of-job.ensures.half)
+
+pub write_from-requires-clause-known : goal.write_from-requires-clause-known
+write_from-requires-clause-known c z =
+    let j = c.of-job.result in
+    subst (λ p. obliges (mover_of j) (related_by j) j.t p ≡ true) (sym c.new.ensures) (none_obliges (mover_of j) (related_by j) j.t j.there (sym j.free) (sym (ap length j.taken) ∙ sym c.len.ensures ∙ z))
 
 pub returns : goal.returns
 returns c =
-    let h = c.args.half.now in
-    let n = table_meaning h.mover.now in
-    let k = table_meaning h.other.now in
-    let bags = all_bags n k (pairs_of h.pairs) c.args.t c.len.result (c.places.result - 0) (c.len.ensures.value ∙ ap length c.flow_list-takes.ensures) (sub-zero c.places.result ∙ c.places.ensures) in
+    let j = c.of-job.result in
+    let n = mover_of j in
+    let k = other_of j in
+    let R = related_by j in
+    let d = k.places - 0 in
+    let bags = ap (λ p. bags_after n R j.t p d 0 c.len.result) c.new.ensures ∙ all_bags n k R j.t c.len.result d (c.len.ensures ∙ ap length j.taken) (sub-zero k.places) in
+    let own : WroteFor j.half.now c.args.start c.args.out.now (map (at j.half.now.side j.t) (bags_of j.half.now j.t)) c.write_from.new.out = λ f agrees. subst (λ es. Wrote c.args.start c.args.out.now es c.write_from.new.out) (ap (map (λ ys. (at j.half.now.side j.t ys, answer_for n k R j.t ys))) bags ∙ entries_are j.half.now.side j.t f (answer_for n k R j.t) (agrees j.t) (bags_for n k R j.t)) c.write_from.ensures.written in
     record {
-      next = c.write_from.ensures.next ∙ ap (λ bs. c.args.start + length bs) bags;
-      written = λ f agrees. subst (λ es. Wrote c.args.start c.args.out.now es c.write_from.new.out) (ap (map (λ ys. (at h.side c.args.t ys, answer_for n k (pairs_of h.pairs) c.args.t ys))) bags ∙ entries_are h.side c.args.t f (answer_for n k (pairs_of h.pairs) c.args.t) (agrees c.args.t) (bags_for n k (pairs_of h.pairs) c.args.t)) c.write_from.ensures.written;
+      next = c.write_from.ensures.next ∙ ap (λ bs. c.args.start + length bs) bags ∙ ap (λ i. c.args.start + length (bags_of j.half.now i)) c.of-job.ensures.t ∙ ap (λ h. c.args.start + length (bags_of h c.args.t)) c.of-job.ensures.half;
+      written = subst (λ h. WroteFor h c.args.start c.args.out.now (map (at h.side c.args.t) (bags_of h c.args.t)) c.write_from.new.out) c.of-job.ensures.half
+          (subst (λ i. WroteFor j.half.now c.args.start c.args.out.now (map (at j.half.now.side i) (bags_of j.half.now i)) c.write_from.new.out) c.of-job.ensures.t own);
     }

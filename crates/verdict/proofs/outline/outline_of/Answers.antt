@@ -1,11 +1,11 @@
-use Rattle.verdict.proofs.Flows.{outlined_none, outlined_more, outlined_all}
+use Rattle.std.proofs.Common.{rules, ◌≡◌, refl, arith}
+use Rattle.nets.specs.Made.{made_at}
+use Rattle.nets.specs.Tables.{table_meaning}
+use Rattle.verdict.specs.Relating.{FlowsOf}
 use Rattle.verdict.proofs.outline.outline_of.Goals as goal
 
-pub loop-t-init : goal.loop-t-init
-loop-t-init c = outlined_none _ _
-
-pub loop-t-preserved : goal.loop-t-preserved
-loop-t-preserved c = outlined_more c.flow_list.result c.flow_list-in-loop-t.result c.loop-t-test.true c.flow_list.ensures c.flow_list-in-loop-t.ensures c.loop-t.invariant
-
 pub returns : goal.returns
-returns c = outlined_all _ c.loop-t-test.false c.loop-t.invariant
+returns c = record {
+  long = c.from_fn.ensures.items.long;
+  each = λ t l d. made_at _ (λ p. p.0 ≡ c.args.net) (FlowsOf (table_meaning c.args.net.now)) (λ p same i flows q made. (search rules, search rules)) c.from_fn.result d _ 0 32 refl c.from_fn.ensures.items.each t (omega arith) l;
+}

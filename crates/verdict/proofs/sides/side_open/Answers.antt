@@ -2,8 +2,10 @@ use Rattle.std.proofs.Common.{◌≡◌, Ok, subst, arith}
 use Rattle.nets.specs.Tables.{table_meaning, table_limits}
 use Rattle.bisimulation.specs.Verdicts.{obligations_below}
 use Rattle.verdict.specs.Results.{JudgedBelow}
-use Rattle.verdict.specs.Search.{pairs_of}
-use Rattle.verdict.specs.declared.outline.Role.TheVariants.{Takes}
+use Rattle.verdict.specs.Search.{obligations_of, JudgedFor}
+use Rattle.verdict.proofs.Walks.{err_is}
+use Rattle.verdict.specs.Relating.{pairs_of}
+use Rattle.nets.specs.declared.role.Role.TheVariants.{Input}
 use Rattle.verdict.proofs.Flows.{flow_short}
 use Rattle.verdict.proofs.Halves.{so_far_none, so_far_more, so_far_stops, side_few}
 use Rattle.verdict.proofs.sides.side_open.Goals as goal
@@ -17,20 +19,19 @@ pub transition_open-requires : goal.transition_open-requires
 transition_open-requires c =
     let h = c.args.half.now in
     record {
-      outlined = c.outline_of-outline.ensures;
-      topped = c.tops-tops.ensures;
       there = omega (arith, c.transitions-t-end.ensures, c.loop-t-test.true);
       room = omega (arith, c.requires.room, c.loop-t.invariant.1.few, c.loop-t.invariant.1.counted, c.loop-t-test.true, c.transitions-t-end.ensures, (table_limits h.mover.now).few_transitions);
     }
 
-pub returns-in-Err : goal.returns-in-Err
-returns-in-Err c =
+pub returns-in_err-count : goal.returns-in_err-count
+returns-in_err-count c =
     let h = c.args.half.now in
     let n = table_meaning h.mover.now in
     let k = table_meaning h.other.now in
     record {
-      judged = so_far_stops h.side n k (pairs_of h.pairs) c.args.start c.loop-t.t c.loop-t.count n.transitions c.in-Err.obligation (omega (arith, c.transitions-t-end.ensures, c.loop-t-test.true)) c.loop-t.invariant.1 c.in-Err.ensures;
-      few = omega (arith, side_few h.side n k (pairs_of h.pairs) n.transitions (table_limits h.other.now).few_places (λ t. flow_short n Takes t (table_limits h.mover.now)), (table_limits h.mover.now).few_transitions);
+      judged = err_is (JudgedFor h c.args.start (obligations_of h n.transitions)) c.from_residual.result _ c.from_residual.ensures.1
+          (so_far_stops h.side n k (pairs_of h.pairs) c.args.start c.loop-t.t c.loop-t.count n.transitions _ (omega (arith, c.transitions-t-end.ensures, c.loop-t-test.true)) c.loop-t.invariant.1 c.in_err-count.ensures);
+      few = omega (arith, side_few h.side n k (pairs_of h.pairs) n.transitions (table_limits h.other.now).few_places (λ t. flow_short n Input t (table_limits h.mover.now)), (table_limits h.mover.now).few_transitions);
     }
 
 pub loop-t-preserved : goal.loop-t-preserved
@@ -38,7 +39,7 @@ loop-t-preserved c =
     let h = c.args.half.now in
     let n = table_meaning h.mover.now in (
       c.transitions-t-end.ensures,
-      so_far_more h.side n (table_meaning h.other.now) (pairs_of h.pairs) c.args.start c.loop-t.t c.loop-t.count c.in-Ok.seen (table_limits h.other.now).few_places (flow_short n Takes c.loop-t.t (table_limits h.mover.now)) c.loop-t.invariant.1 c.in-Ok.ensures,
+      so_far_more h.side n (table_meaning h.other.now) (pairs_of h.pairs) c.args.start c.loop-t.t c.loop-t.count c.in_ok-count.count (table_limits h.other.now).few_places (flow_short n Input c.loop-t.t (table_limits h.mover.now)) c.loop-t.invariant.1 c.in_ok-count.ensures,
     )
 
 pub returns : goal.returns
@@ -49,5 +50,5 @@ returns c =
     let all : c.loop-t.t ≡ n.transitions = omega (arith, c.transitions-t-end.ensures, c.loop-t-test.false, c.loop-t.auto.t-end) in
     record {
       judged = subst (λ t. JudgedBelow h.side n k (pairs_of h.pairs) c.args.start (obligations_below h.side n k (pairs_of h.pairs) t) (Ok c.loop-t.count)) all c.loop-t.invariant.1.judged;
-      few = omega (arith, side_few h.side n k (pairs_of h.pairs) n.transitions (table_limits h.other.now).few_places (λ t. flow_short n Takes t (table_limits h.mover.now)), (table_limits h.mover.now).few_transitions);
+      few = omega (arith, side_few h.side n k (pairs_of h.pairs) n.transitions (table_limits h.other.now).few_places (λ t. flow_short n Input t (table_limits h.mover.now)), (table_limits h.mover.now).few_transitions);
     }

@@ -1,6 +1,6 @@
 use Rattle.std.proofs.Common.{◌≡◌}
 use Rattle.nets.specs.Tables.{table_meaning}
-use Rattle.verdict.specs.Search.{pairs_of}
+use Rattle.verdict.specs.Relating.{pairs_of}
 use Rattle.verdict.proofs.Halves.{SoFar}
 use Rattle.verdict.proofs.sides.side_open.Given as goal
 

@@ -1,11 +1,11 @@
-use Rattle.std.proofs.Common.{take, ap, ◌∙◌}
-use native.Mathlib.Nat.{sub-zero}
+use Rattle.std.proofs.Common.{ap, ◌∙◌}
 use Rattle.bisimulation.specs.Verdicts.{answers, lowest_below}
 use Rattle.verdict.specs.Search.{mover_of, other_of, related_by}
+use Rattle.verdict.specs.ShortLists.{listed}
 use Rattle.verdict.proofs.Wrote.{wrote_one}
 use Rattle.verdict.proofs.writing.write_one.Goals as goal
 
 pub returns : goal.returns
 returns c =
     let j = c.args.job.now in
-    wrote_one j c.args.chosen.now c.args.n c.args.at c.of.result c.find_answer-answer.result c.args.out.now c.requires.known c.of.ensures (c.find_answer-answer.ensures ∙ ap (λ k. lowest_below (answers (mover_of j) (other_of j) (related_by j) j.t (take k c.args.chosen.now)) (other_of j).transitions) (sub-zero c.args.n))
+    wrote_one j c.args.at (listed c.args.bag) c.of.result c.find_answer-answer.result c.args.out.now c.requires.known c.of.ensures (c.find_answer-answer.ensures ∙ ap (λ ys. lowest_below (answers (mover_of j) (other_of j) (related_by j) j.t ys) (other_of j).transitions) c.as_slice.ensures)

@@ -1,4 +1,4 @@
--- What holds of each element of an array that a closure made.
+-- What holds of each element of an array that a closure made: a law that the crates above use. Assumes nothing.
 use Rattle.std.proofs.Common.{ℕ, zero, suc, ◌+◌, ◌<◌, ◌≤◌, List, get_or, sym, subst, inl, inr, arith}
 use Rattle.std.proofs.lemmas.Bool.{cases_eq}
 use Rattle.std.specs.Array.{IsFromFnResultFrom}
