@@ -27,8 +27,8 @@ impl<'a> Iterator for LineCursor<'a> {
 
     /// The next line, without the LF that ends it; none behind the last.
     fn next(&mut self) -> Option<&'a [u8]> {
-        let (line, rest) = cut_line(self.rest);
+        let (line, rest) = cut_line(self.rest)?;
         self.rest = rest;
-        line
+        Some(line)
     }
 }

@@ -47,8 +47,8 @@ impl<'a> Iterator for WordCursor<'a> {
 
     /// The next word. Behind the last there is none, and the cursor stands one past the line's last byte.
     fn next(&mut self) -> Option<Word<'a>> {
-        let (word, column, rest) = cut_word(self.column, self.rest);
-        *self = WordCursor { column, rest };
+        let (word, behind) = cut_word(*self);
+        *self = behind;
         word
     }
 }
