@@ -1,21 +1,14 @@
 //! Looking for a byte.
-ghost use Rattle.std.specs.Prelude.{◌≡◌, ◌-◌, ◌≤◌, length, drop};
-ghost use Rattle.lines.specs.Counts.{before, leads};
+ghost use Rattle.std.specs.Prelude.{◌≡◌, ℕ, ◌-◌, ◌≤◌, Bool, length, drop};
+ghost use Rattle.std.specs.List.{prefix_len};
 
-/// How many bytes stand before the first `b`.
-pub(crate) fn until(bytes: &[u8], b: u8) -> usize
-    ensures value { result ≡ before b bytes.now }
+/// How many bytes in front pass a test.
+pub(crate) fn leading<F: Fn(u8) -> bool>(bytes: &[u8], passes: F) -> usize
+    requires { F.IsAlwaysCallable passes }
+    ensures value { (p : ℕ → Bool) → ((x : ℕ) (r : Bool) → F.post passes x r → r ≡ p x) → result ≡ prefix_len p bytes.now }
     ensures within { result ≤ length bytes.now }
 {
-    bytes.iter().take_while(|x| **x != b).count()
-}
-
-/// How many bytes in front are `b`.
-pub(crate) fn leading(bytes: &[u8], b: u8) -> usize
-    ensures value { result ≡ leads b bytes.now }
-    ensures within { result ≤ length bytes.now }
-{
-    bytes.iter().take_while(|x| **x == b).count()
+    bytes.iter().take_while(|x| passes(**x)).count()
 }
 
 /// The bytes behind the first.

@@ -3,7 +3,7 @@ ghost use Rattle.std.specs.Prelude.{◌≡◌, ◌<◌, ◌≤◌, [], ◌∷◌
 ghost use Rattle.lines.specs.Cursors.{GivesWord};
 ghost use Rattle.lines.specs.Lines.{lines};
 
-use crate::bytes::{leading, past_first, until};
+use crate::bytes::{leading, past_first};
 use crate::word_cursor::{Word, WordCursor};
 
 /// The first line of a text, and what stands behind the LF that ends it; none of the empty text.
@@ -14,7 +14,7 @@ pub(crate) fn cut_line(text: &[u8]) -> Option<(&[u8], &[u8])>
     if text.is_empty() {
         return None;
     }
-    let (line, rest) = text.split_at(until(text, b'\n'));
+    let (line, rest) = text.split_at(leading(text, |b| b != b'\n'));
     Some((line, past_first(rest)))
 }
 
@@ -23,10 +23,10 @@ pub(crate) fn cut_line(text: &[u8]) -> Option<(&[u8], &[u8])>
 pub(crate) fn cut_word(cursor: WordCursor<'_>) -> (Option<Word<'_>>, WordCursor<'_>)
     ensures { GivesWord cursor.entry result.0 result.1 }
 {
-    let gap = leading(cursor.rest, b' ');
+    let gap = leading(cursor.rest, |b| b == b' ');
     let (_, front) = cursor.rest.split_at(gap);
     let column = cursor.column + gap;
-    let long = until(front, b' ');
+    let long = leading(front, |b| b != b' ');
     let (bytes, rest) = front.split_at(long);
     let behind = WordCursor {
         column: column + long,
