@@ -8,7 +8,7 @@ use crate::tokens::{line_at, word_at};
 
 /// A fault of a text: what is wrong, the text, the line and the column, both counted from 1. For a text that is too
 /// long both are 0.
-#[derive(Clone, Copy)]
+#[derive(Clone, Copy, Debug, PartialEq, Eq)]
 pub struct TextFault<'a> {
     cause: Cause,
     text: &'a [u8],
@@ -40,8 +40,7 @@ impl<'a> TextFault<'a> {
     pub fn number(&self) -> u8
         ensures { result ≡ text_fault (fault_of self.now).cause }
     {
-        let cause = self.cause();
-        cause.number()
+        self.cause.number()
     }
 
     /// What is wrong.
