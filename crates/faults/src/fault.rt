@@ -40,7 +40,8 @@ impl<'a> TextFault<'a> {
     pub fn number(&self) -> u8
         ensures { result ≡ text_fault (fault_of self.now).cause }
     {
-        self.cause.number()
+        let cause = self.cause();
+        cause.number()
     }
 
     /// What is wrong.

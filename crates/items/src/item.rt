@@ -9,14 +9,14 @@ use faults::NumberFault;
 use names::Name;
 
 /// Whether an item is an arc or an inhibitor.
-#[derive(Clone, Copy)]
+#[derive(Clone, Copy, Debug, PartialEq, Eq)]
 pub enum Role {
     Arc,
     Inhibitor,
 }
 
 /// What an item says: its place, its role, and its number, which is the weight of an arc.
-#[derive(Clone, Copy)]
+#[derive(Clone, Copy, Debug, PartialEq, Eq)]
 pub struct Item {
     pub place: Name,
     pub role: Role,
@@ -24,7 +24,7 @@ pub struct Item {
 }
 
 /// What stands behind a name.
-#[derive(Clone, Copy)]
+#[derive(Clone, Copy, Debug, PartialEq, Eq)]
 enum Suffix<'a> {
     Plain,
     Times(&'a [u8]),
@@ -37,12 +37,9 @@ fn name_length(word: &[u8]) -> usize
     ensures value { result ≡ name_length word.now }
     ensures within { result ≤ length word.now }
 {
-    for (i, b) in word.iter().enumerate() {
-        if *b == b'*' || *b == b'?' {
-            return i;
-        }
-    }
-    word.len()
+    word.iter()
+        .take_while(|b| !matches!(**b, b'*' | b'?'))
+        .count()
 }
 
 /// What the bytes behind a name are.
@@ -67,22 +64,16 @@ fn with_suffix(place: Name, suffix: Suffix) -> Option<Item>
             role: Role::Arc,
             number: Ok(1),
         }),
-        Suffix::Times(digits) => {
-            let number = ranged_numeral(digits, 1, 4)?;
-            Some(Item {
-                place,
-                role: Role::Arc,
-                number,
-            })
-        }
-        Suffix::Inhibits(digits) => {
-            let number = ranged_numeral(digits, 1, 1)?;
-            Some(Item {
-                place,
-                role: Role::Inhibitor,
-                number,
-            })
-        }
+        Suffix::Times(digits) => Some(Item {
+            place,
+            role: Role::Arc,
+            number: ranged_numeral(digits, 1, 4)?,
+        }),
+        Suffix::Inhibits(digits) => Some(Item {
+            place,
+            role: Role::Inhibitor,
+            number: ranged_numeral(digits, 1, 1)?,
+        }),
         Suffix::Other => None,
     }
 }
