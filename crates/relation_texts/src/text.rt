@@ -1,30 +1,28 @@
 //! The lines of a relation text.
 ghost use Rattle.std.specs.Prelude.{◌≡◌, ◌≤◌, length};
 ghost use Rattle.lines.specs.Lines.{lines};
-ghost use Rattle.relation_texts.specs.Readings.{ended_by, so_far};
+ghost use Rattle.relation_texts.specs.Outcomes.{outcome_of};
+ghost use Rattle.relation_texts.specs.Readings.{so_far};
 ghost use Rattle.relation_texts.specs.Walk.{walk};
 
 use crate::reading::Reading;
 use faults::TextFault;
 use lines::LineCursor;
+use places::Relation;
 
-/// Takes the lines of a text, from its first, between nets of so many places.
+/// The relation that a text says, taken line by line from its first.
 pub(crate) fn read_lines<'a>(
-    reading: &mut Reading,
+    mut reading: Reading,
     text: &'a [u8],
-    left: u8,
-    right: u8,
-) -> Result<(), TextFault<'a>>
-    requires { (length text.now ≤ 4096) × (reading.old.edges ≡ 0) }
-    ensures { ended_by result reading.new ≡ walk text.now left right 1 (so_far reading.old) (lines text.now) }
+) -> Result<Relation, TextFault<'a>>
+    requires { (length text.now ≤ 4096) × (reading.edges ≡ 0) }
+    ensures { outcome_of result ≡ walk text.now reading.left reading.right 1 (so_far reading) (lines text.now) }
 {
-    let mut cursor = LineCursor::of(text);
-    let mut number = 1;
-    while let Some(line) = cursor.next() {
-        if let Err(flaw) = reading.take_line(line, number, left, right) {
-            return Err(TextFault::in_line(flaw, text, number));
-        }
-        number += 1;
+    for (before, line) in LineCursor::of(text).enumerate() {
+        let number = before + 1;
+        reading
+            .take_line(line, number)
+            .map_err(|flaw| TextFault::in_line(flaw, text, number))?;
     }
-    reading.finish(text, number)
+    reading.finish(text)
 }
