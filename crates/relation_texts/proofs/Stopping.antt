@@ -11,7 +11,7 @@ use Rattle.relation_texts.specs.declared.forms.Said.{Said}
 use Rattle.relation_texts.specs.declared.forms.Said.TheVariants.{Nothing, Header, Edge}
 use Rattle.std.proofs.lemmas.Slice.Eq.{bytes_eq-Decides}
 use Rattle.std.proofs.lemmas.List.{append_assoc, append-nil}
-use Rattle.std.proofs.lemmas.Bool.{eqb-true, eqb-false}
+use Rattle.std.proofs.lemmas.Bool.{eqb-false}
 use Rattle.std.specs.Str.{bytes_eq}
 use Rattle.relation_texts.proofs.Columns.{formal_by}
 use Rattle.relation_texts.proofs.WrittenLines.{letter_at, forms_exactly}
@@ -167,9 +167,9 @@ said_stops (word d bs w) c h = at (letter bs) refl h
 
     no_letter : letter bs ≡ None → Begins (bs ∷ []) → ⊥
     no_letter l s = elim (first_token s.1) [
-      | inl i ↦ let k : None ≡ Some 99 = sym l ∙ ap letter i in let z : ◌≡◌ {A = ℕ} 0 1 = cc in omega arith
-      | inr (inl i) ↦ let k : None ≡ Some 112 = sym l ∙ ap letter i in let z : ◌≡◌ {A = ℕ} 0 1 = cc in omega arith
-      | inr (inr i) ↦ let k : None ≡ Some 101 = sym l ∙ ap letter i in let z : ◌≡◌ {A = ℕ} 0 1 = cc in omega arith
+      | inl i ↦ let k : ◌≡◌ {A = Option ℕ} None (Some 99) = sym l ∙ ap letter i in let z : ◌≡◌ {A = ℕ} 0 1 = cc in omega arith
+      | inr (inl i) ↦ let k : ◌≡◌ {A = Option ℕ} None (Some 112) = sym l ∙ ap letter i in let z : ◌≡◌ {A = ℕ} 0 1 = cc in omega arith
+      | inr (inr i) ↦ let k : ◌≡◌ {A = Option ℕ} None (Some 101) = sym l ∙ ap letter i in let z : ◌≡◌ {A = ℕ} 0 1 = cc in omega arith
     ]
 
     by_e : (b : ℕ) → letter bs ≡ Some b → eqb b 99 ≡ false → eqb b 112 ≡ false → (t : Bool) → eqb b 101 ≡ t → cond t (edge_line d w) (misfit d) ≡ misfit c → StopsAt [] (word d bs w) c

@@ -11,7 +11,6 @@ ghost use Rattle.relation_texts.specs.Written.{FormsExactly};
 
 use faults::{Cause, TextFault};
 use places::Relation;
-use reading::Reading;
 
 mod forms;
 mod reading;
@@ -29,8 +28,7 @@ pub fn read_relation<'a>(
     if text.len() > 4096 {
         return Err(TextFault::new(Cause::RelationTooLong, text, 0, 0));
     }
-    let reading = Reading::between(left_places.min(16), right_places.min(16));
-    text::read_lines(reading, text)
+    text::read_lines(text, left_places.min(16), right_places.min(16))
 }
 
 /// A fault is reported exactly when it is its line's first, by the numbers of the faults, and no earlier line has one;

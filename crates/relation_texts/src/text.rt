@@ -1,23 +1,20 @@
 //! The lines of a relation text.
-ghost use Rattle.std.specs.Prelude.{◌≡◌, ◌≤◌, length};
+ghost use Rattle.std.specs.Prelude.{◌≡◌};
 ghost use Rattle.lines.specs.Lines.{lines};
 ghost use Rattle.relation_texts.specs.Outcomes.{outcome_of};
-ghost use Rattle.relation_texts.specs.Readings.{so_far};
-ghost use Rattle.relation_texts.specs.Walk.{walk};
+ghost use Rattle.relation_texts.specs.Walk.{nothing_yet, walk};
 
 use crate::reading::Reading;
 use faults::TextFault;
 use lines::LineCursor;
 use places::Relation;
 
-/// The relation that a text says, taken line by line from its first.
-pub(crate) fn read_lines<'a>(
-    mut reading: Reading,
-    text: &'a [u8],
-) -> Result<Relation, TextFault<'a>>
-    requires { (length text.now ≤ 4096) × (reading.edges ≡ 0) }
-    ensures { outcome_of result ≡ walk text.now reading.left reading.right 1 (so_far reading) (lines text.now) }
+/// The relation that a text says between a left net and a right net of so many places, or its fault: line by line from
+/// the first.
+pub(crate) fn read_lines(text: &[u8], left: u8, right: u8) -> Result<Relation, TextFault<'_>>
+    ensures { outcome_of result ≡ walk text.now left right 1 nothing_yet (lines text.now) }
 {
+    let mut reading = Reading::between(left, right);
     for (before, line) in LineCursor::of(text).enumerate() {
         let number = before + 1;
         reading

@@ -27,8 +27,8 @@ fn mismatch(count: Count) -> Flaw<NumberFault>
 fn place(count: Count, before: u8, places: u8) -> Result<u8, Flaw<NumberFault>>
     ensures { result ≡ (if is_place before places count.value then Ok (place_of before count.value) else Err (record { cause = Mismatch; column = count.column })) }
 {
-    let before = before as u32;
-    let last = before + places as u32;
+    let before = u32::from(before);
+    let last = before + u32::from(places);
     if count.value > before && count.value <= last {
         Ok((count.value - before - 1) as u8)
     } else {
@@ -40,7 +40,7 @@ fn place(count: Count, before: u8, places: u8) -> Result<u8, Flaw<NumberFault>>
 fn check_places(count: Count, left: u8, right: u8) -> Result<(), Flaw<NumberFault>>
     ensures { result ≡ (if count.value == left + right then Ok tt else Err (record { cause = Mismatch; column = count.column })) }
 {
-    if count.value == left as u32 + right as u32 {
+    if count.value == u32::from(left) + u32::from(right) {
         Ok(())
     } else {
         Err(mismatch(count))
