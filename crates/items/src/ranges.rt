@@ -11,12 +11,12 @@ fn in_range(n: Numeral, least: u8, most: u8) -> Result<u8, NumberFault>
     ensures { result ≡ ranged least most n }
 {
     if n.padded {
-        Err(NumberFault::LeadingZero)
-    } else if n.value >= least as u32 && n.value <= most as u32 {
-        Ok(n.value as u8)
-    } else {
-        Err(NumberFault::OutOfRange)
+        return Err(NumberFault::LeadingZero);
     }
+    u8::try_from(n.value)
+        .ok()
+        .filter(|v| (least..=most).contains(v))
+        .ok_or(NumberFault::OutOfRange)
 }
 
 /// The value of digits, from the least to the most; none where they are no numeral.
