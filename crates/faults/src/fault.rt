@@ -12,6 +12,7 @@ use crate::tokens::{line_at, word_at};
 pub struct TextFault<'a> {
     cause: Cause,
     text: &'a [u8],
+    // Plain numbers, and none an `Option`: the table of refusals gives a text that is too long line 0 and column 0.
     line: usize,
     column: usize,
 }

@@ -8,6 +8,7 @@ ghost use Rattle.numerals.specs.Numerals.{all_digits, is_numeral, numeral, start
 /// A number that was written out: its value, and whether a zero stands before another digit.
 #[derive(Clone, Copy, Debug, PartialEq, Eq)]
 pub struct Numeral {
+    // The value stands where the numeral is padded too: to one reader the number is wrong then, to another its form.
     pub value: u32,
     pub padded: bool,
 }

@@ -55,9 +55,7 @@ fn plain_number(word: &[u8]) -> Option<u32>
 fn next_number(words: &mut WordCursor) -> Result<Count, Flaw<LineFault>>
     ensures { elim result [ Ok n ↦ number_first (words_left words.old) ≡ Ok (n, words_left words.new) | Err f ↦ number_first (words_left words.old) ≡ Err f ] }
 {
-    let Some(word) = words.next() else {
-        return Err(misfit(words.column()));
-    };
+    let word = words.next().ok_or(misfit(words.column()))?;
     let value = plain_number(word.bytes).ok_or(misfit(word.column))?;
     Ok(Count {
         column: word.column,
@@ -81,9 +79,7 @@ fn two_numbers(mut words: WordCursor) -> Result<(Count, Count), Flaw<LineFault>>
 fn header(column: usize, mut words: WordCursor) -> Result<Said, Flaw<LineFault>>
     ensures { result ≡ header_line column (words_left words.entry) }
 {
-    let Some(word) = words.next() else {
-        return Err(misfit(words.column()));
-    };
+    let word = words.next().ok_or(misfit(words.column()))?;
     if !word.is(b"edge") {
         return Err(misfit(word.column));
     }

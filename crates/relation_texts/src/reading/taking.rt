@@ -36,17 +36,6 @@ fn place(count: Count, before: u8, places: u8) -> Result<u8, Flaw<NumberFault>>
     }
 }
 
-/// The number of places of both nets.
-fn check_places(count: Count, left: u8, right: u8) -> Result<(), Flaw<NumberFault>>
-    ensures { result ≡ (if count.value == left + right then Ok tt else Err (record { cause = Mismatch; column = count.column })) }
-{
-    if count.value == u32::from(left) + u32::from(right) {
-        Ok(())
-    } else {
-        Err(mismatch(count))
-    }
-}
-
 /// The number of the line behind the last.
 fn line_behind(text: &[u8]) -> usize
     ensures { result ≡ length (lines text.now) + 1 }
@@ -70,6 +59,17 @@ impl Reading {
         }
     }
 
+    /// Whether this is the number of places of both nets.
+    fn check_places(&self, count: Count) -> Result<(), Flaw<NumberFault>>
+        ensures { result ≡ (if count.value == self.now.left + self.now.right then Ok tt else Err (record { cause = Mismatch; column = count.column })) }
+    {
+        if count.value == u32::from(self.left) + u32::from(self.right) {
+            Ok(())
+        } else {
+            Err(mismatch(count))
+        }
+    }
+
     /// Whether a header may come here, with its `p` at a column and such a number of places.
     fn check_header(&self, column: usize, places: Count) -> Result<(), Flaw<LineFault>>
         ensures { (n : ℕ) (pairs : Count) → headed self.now.left self.now.right n (so_far self.now) column places pairs ≡ (then) result (λ _. Ok (with_header n pairs (so_far self.now))) }
@@ -80,13 +80,17 @@ impl Reading {
                 column,
             });
         }
-        check_places(places, self.left, self.right)?;
-        Ok(())
+        Ok(self.check_places(places)?)
     }
 
     /// The places of an edge whose `e` stands at a column, a pair that no line before has said.
-    fn new_pair(&self, column: usize, edge: (Count, Count)) -> Result<(u8, u8), Flaw<LineFault>>
-        ensures { edged self.now.left self.now.right (so_far self.now) column edge.0 edge.1 ≡ (then) result (λ pair. Ok (with_edge pair.0 pair.1 (so_far self.now))) }
+    fn new_pair(
+        &self,
+        column: usize,
+        left: Count,
+        right: Count,
+    ) -> Result<(u8, u8), Flaw<LineFault>>
+        ensures { edged self.now.left self.now.right (so_far self.now) column left right ≡ (then) result (λ pair. Ok (with_edge pair.0 pair.1 (so_far self.now))) }
     {
         if self.announced.is_none() {
             return Err(Flaw {
@@ -94,8 +98,8 @@ impl Reading {
                 column,
             });
         }
-        let p = place(edge.0, 0, self.left)?;
-        let q = place(edge.1, self.left, self.right)?;
+        let p = place(left, 0, self.left)?;
+        let q = place(right, self.left, self.right)?;
         if self.pairs.contains(p, q) {
             return Err(Flaw {
                 cause: LineFault::PairAgain,
@@ -131,7 +135,7 @@ impl Reading {
                 left,
                 right,
             } => {
-                let (p, q) = self.new_pair(column, (left, right))?;
+                let (p, q) = self.new_pair(column, left, right)?;
                 self.pairs.insert(p, q);
                 self.edges += 1;
             }
