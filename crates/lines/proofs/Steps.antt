@@ -41,10 +41,6 @@ first_line (x ∷ xs) h en el er eb =
     ap (λ k. take k (x ∷ xs) ∷ lines (drop (suc k) (x ∷ xs))) (sym en) ∙
     rw (el, eb, er, drop-drop 1 _ (x ∷ xs), add-one)
 
-pub no_lines : (text : List ℕ) → length text ≡ 0 → lines text ≡ []
-no_lines [] h = refl
-no_lines (x ∷ xs) h = absurd (omega arith)
-
 -- spaces in front only move the column
 pub past_gap : (c : ℕ) (xs : List ℕ) → words c xs ≡ words (c + leads 32 xs) (drop (leads 32 xs) xs)
 past_gap c [] = ap stop (sym (add-zero c))

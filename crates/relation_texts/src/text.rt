@@ -15,8 +15,7 @@ pub(crate) fn read_lines(text: &[u8], left: u8, right: u8) -> Result<Relation, T
     ensures { outcome_of result ≡ walk text.now left right 1 nothing_yet (lines text.now) }
 {
     let mut reading = Reading::between(left, right);
-    for (before, line) in LineCursor::of(text).enumerate() {
-        let number = before + 1;
+    for (number, line) in (1..).zip(LineCursor::of(text)) {
         reading
             .take_line(line, number)
             .map_err(|flaw| TextFault::in_line(flaw, text, number))?;
