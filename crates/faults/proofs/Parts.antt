@@ -119,7 +119,7 @@ token_part text n c =
     (line_part 1 n (lines text) text (line_parts text))
 
 -- no line before the first and none behind the last
-line_before : (k n : ℕ) (ls : List (List ℕ)) → n < k → line_from k n ls ≡ []
+pub line_before : (k n : ℕ) (ls : List (List ℕ)) → n < k → line_from k n ls ≡ []
 line_before k n [] h = refl
 line_before k n (l ∷ ls) h = ap (λ t. cond t l (line_from (k + 1) n ls)) (ne_eqb k n (λ e. omega arith)) ∙ line_before (k + 1) n ls (omega arith)
 

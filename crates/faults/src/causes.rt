@@ -5,7 +5,7 @@ ghost use Rattle.faults.specs.declared.causes.Cause.TheVariants.{Line};
 ghost use Rattle.faults.specs.declared.causes.LineFault.TheVariants.{Number};
 
 /// What is wrong with a number.
-#[derive(Clone, Copy)]
+#[derive(Clone, Copy, Debug, PartialEq, Eq)]
 pub enum NumberFault {
     /// 3, of a net text: a zero before another digit.
     LeadingZero,
@@ -16,7 +16,7 @@ pub enum NumberFault {
 }
 
 /// What is wrong with a line.
-#[derive(Clone, Copy)]
+#[derive(Clone, Copy, Debug, PartialEq, Eq)]
 pub enum LineFault {
     /// 2: a line of a net text fits no form.
     NetForm,
@@ -43,7 +43,7 @@ pub enum LineFault {
 }
 
 /// What is wrong with a text.
-#[derive(Clone, Copy)]
+#[derive(Clone, Copy, Debug, PartialEq, Eq)]
 pub enum Cause {
     /// 1: a net text of more than 8,192 bytes.
     NetTooLong,
@@ -54,7 +54,7 @@ pub enum Cause {
 }
 
 /// Something wrong in a line, and the column at which it stands.
-#[derive(Clone, Copy)]
+#[derive(Clone, Copy, Debug, PartialEq, Eq)]
 pub struct Flaw<C> {
     pub cause: C,
     pub column: usize,

@@ -8,10 +8,11 @@ use crate::tokens::{line_at, word_at};
 
 /// A fault of a text: what is wrong, the text, the line and the column, both counted from 1. For a text that is too
 /// long both are 0.
-#[derive(Clone, Copy)]
+#[derive(Clone, Copy, Debug, PartialEq, Eq)]
 pub struct TextFault<'a> {
     cause: Cause,
     text: &'a [u8],
+    // Plain numbers, and none an `Option`: the table of refusals gives a text that is too long line 0 and column 0.
     line: usize,
     column: usize,
 }

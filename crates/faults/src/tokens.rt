@@ -10,26 +10,17 @@ use lines::{LineCursor, WordCursor};
 pub(crate) fn line_at(text: &[u8], number: usize) -> &[u8]
     ensures { result.now ≡ line_from 1 number (lines text.now) }
 {
-    let mut cursor = LineCursor::of(text);
-    let mut k = 1;
-    while let Some(line) = cursor.next() {
-        if k == number {
-            return line;
-        }
-        k += 1;
-    }
-    &text[0..0]
+    let Some(before) = number.checked_sub(1) else {
+        return &text[..0];
+    };
+    LineCursor::of(text).nth(before).unwrap_or(&text[..0])
 }
 
 /// The word of a line at a column; an empty part of the line where none begins there.
 pub(crate) fn word_at(line: &[u8], column: usize) -> &[u8]
     ensures { result.now ≡ word_at column (words 1 line.now) }
 {
-    let mut cursor = WordCursor::of(line);
-    while let Some(word) = cursor.next() {
-        if word.column == column {
-            return word.bytes;
-        }
-    }
-    &line[0..0]
+    WordCursor::of(line)
+        .find(|word| word.column == column)
+        .map_or(&line[..0], |word| word.bytes)
 }

@@ -42,7 +42,9 @@ stop_length (b ∷ bs) (inl e) = rw e
 stop_length (b ∷ bs) (inr e) = rw e
 
 past_apart : (b : ℕ) (bs : List ℕ) → Apart b → name_length (b ∷ bs) ≡ suc (name_length bs)
-past_apart b bs h = ap (λ t. cond t 0 (suc (name_length bs))) (or_from (eqb b 42) (eqb b 63) (ne_eqb b 42 h.0) (ne_eqb b 63 h.1))
+past_apart b bs h =
+    let e : (eqb b 42 || eqb b 63) ≡ false = or_from (eqb b 42) (eqb b 63) (ne_eqb b 42 h.0) (ne_eqb b 63 h.1) in
+    rw e (omega arith)
 
 past_tails : (bs tail : List ℕ) → all_tail bs ≡ true → Stops tail → name_length (bs ++ tail) ≡ length bs
 past_tails [] tail e h = stop_length tail h

@@ -1,5 +1,6 @@
 -- The items of a net text: an arc or an inhibitor, by the bytes of a word. The byte 42 is *, 63 is ?, 45 is -. Assumes nothing.
-use Rattle.std.specs.Prelude.{ℕ, suc, cond, ◌||◌, List, [], ◌∷◌, take, drop, Some, None, Ok, Option, Result, ◌==◌}
+use Rattle.std.specs.Prelude.{ℕ, cond, ◌||◌, List, [], ◌∷◌, take, drop, Some, None, Ok, Option, Result, ◌==◌}
+use Rattle.std.specs.List.{position_or_len}
 use Rattle.faults.specs.declared.causes.NumberFault.{NumberFault}
 use Rattle.items.specs.Numbers.{ranged_numeral}
 use Rattle.items.specs.declared.item.Role.{Role}
@@ -31,8 +32,7 @@ tail_of (b ∷ bs) = cond (b == 42) (times bs) (cond (b == 63) (behind_mark bs) 
 
 -- how many bytes stand before the first `*` or `?`
 abbrev pub name_length : List ℕ → ℕ
-name_length [] = 0
-name_length (b ∷ bs) = cond (b == 42 || b == 63) 0 (suc (name_length bs))
+name_length bs = position_or_len (λ b. b == 42 || b == 63) bs
 
 -- an item of the place p in a role, by the number behind it
 abbrev pub item_of : ℕ → Role → Option (Result ℕ NumberFault) → Option ItemSaid

@@ -2,7 +2,7 @@
 use Rattle.items.specs.Items.{ItemSaid, Tail, nothing, times, inhibits, other}
 use Rattle.items.specs.declared.item.Item.{Item}
 use Rattle.items.specs.declared.item.Suffix.{Suffix}
-use Rattle.items.specs.declared.item.Suffix.TheVariants.{Plain, Times, Inhibits, Other}
+use Rattle.items.specs.declared.item.Suffix.TheVariants.{Plain, Times, Inhibits}
 use Rattle.names.specs.Meanings.{number_of}
 use Rattle.std.specs.Prelude.{Some, None, Option}
 
@@ -15,8 +15,8 @@ meant_by None = None
 meant_by (Some i) = Some (meant i)
 
 -- what stands behind a name
-abbrev pub tail_by : Suffix → Tail
-tail_by Plain = nothing
-tail_by (Times ds) = times ds.now
-tail_by (Inhibits ds) = inhibits ds.now
-tail_by Other = other
+abbrev pub tail_by : Option Suffix → Tail
+tail_by None = other
+tail_by (Some Plain) = nothing
+tail_by (Some (Times ds)) = times ds.now
+tail_by (Some (Inhibits ds)) = inhibits ds.now

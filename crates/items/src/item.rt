@@ -1,5 +1,5 @@
 //! A name and what stands behind it.
-ghost use Rattle.std.specs.Prelude.{◌≡◌, ◌≤◌, length};
+ghost use Rattle.std.specs.Prelude.{◌≡◌, ◌≤◌, length, Some};
 ghost use Rattle.items.specs.Items.{input_item, item_by, item_parts, name_length, tail_of};
 ghost use Rattle.items.specs.Meant.{meant_by, tail_by};
 ghost use Rattle.names.specs.Meanings.{number_of};
@@ -9,14 +9,14 @@ use faults::NumberFault;
 use names::Name;
 
 /// Whether an item is an arc or an inhibitor.
-#[derive(Clone, Copy)]
+#[derive(Clone, Copy, Debug, PartialEq, Eq)]
 pub enum Role {
     Arc,
     Inhibitor,
 }
 
 /// What an item says: its place, its role, and its number, which is the weight of an arc.
-#[derive(Clone, Copy)]
+#[derive(Clone, Copy, Debug, PartialEq, Eq)]
 pub struct Item {
     pub place: Name,
     pub role: Role,
@@ -24,12 +24,11 @@ pub struct Item {
 }
 
 /// What stands behind a name.
-#[derive(Clone, Copy)]
+#[derive(Clone, Copy, Debug, PartialEq, Eq)]
 enum Suffix<'a> {
     Plain,
     Times(&'a [u8]),
     Inhibits(&'a [u8]),
-    Other,
 }
 
 /// How many bytes stand before the first `*` or `?`.
@@ -37,29 +36,26 @@ fn name_length(word: &[u8]) -> usize
     ensures value { result ≡ name_length word.now }
     ensures within { result ≤ length word.now }
 {
-    for (i, b) in word.iter().enumerate() {
-        if *b == b'*' || *b == b'?' {
-            return i;
-        }
-    }
-    word.len()
+    word.iter()
+        .take_while(|b| !matches!(**b, b'*' | b'?'))
+        .count()
 }
 
-/// What the bytes behind a name are.
-fn suffix_of(suffix: &[u8]) -> Suffix<'_>
+/// What the bytes behind a name are; none where they are no suffix.
+fn suffix_of(suffix: &[u8]) -> Option<Suffix<'_>>
     ensures { tail_by result ≡ tail_of suffix.now }
 {
     match suffix {
-        [] => Suffix::Plain,
-        [b'*', digits @ ..] => Suffix::Times(digits),
-        [b'?', b'-', digits @ ..] => Suffix::Inhibits(digits),
-        _ => Suffix::Other,
+        [] => Some(Suffix::Plain),
+        [b'*', digits @ ..] => Some(Suffix::Times(digits)),
+        [b'?', b'-', digits @ ..] => Some(Suffix::Inhibits(digits)),
+        _ => None,
     }
 }
 
 /// An item of a place, by what stands behind the place's name.
 fn with_suffix(place: Name, suffix: Suffix) -> Option<Item>
-    ensures { meant_by result ≡ item_by (number_of place) (tail_by suffix.entry) }
+    ensures { meant_by result ≡ item_by (number_of place) (tail_by (Some suffix.entry)) }
 {
     match suffix {
         Suffix::Plain => Some(Item {
@@ -67,23 +63,16 @@ fn with_suffix(place: Name, suffix: Suffix) -> Option<Item>
             role: Role::Arc,
             number: Ok(1),
         }),
-        Suffix::Times(digits) => {
-            let number = ranged_numeral(digits, 1, 4)?;
-            Some(Item {
-                place,
-                role: Role::Arc,
-                number,
-            })
-        }
-        Suffix::Inhibits(digits) => {
-            let number = ranged_numeral(digits, 1, 1)?;
-            Some(Item {
-                place,
-                role: Role::Inhibitor,
-                number,
-            })
-        }
-        Suffix::Other => None,
+        Suffix::Times(digits) => Some(Item {
+            place,
+            role: Role::Arc,
+            number: ranged_numeral(digits, 1, 4)?,
+        }),
+        Suffix::Inhibits(digits) => Some(Item {
+            place,
+            role: Role::Inhibitor,
+            number: ranged_numeral(digits, 1, 1)?,
+        }),
     }
 }
 
@@ -91,8 +80,7 @@ fn with_suffix(place: Name, suffix: Suffix) -> Option<Item>
 fn of_parts(name: &[u8], suffix: &[u8]) -> Option<Item>
     ensures { meant_by result ≡ item_parts name.now suffix.now }
 {
-    let place = Name::of(name)?;
-    with_suffix(place, suffix_of(suffix))
+    with_suffix(Name::of(name)?, suffix_of(suffix)?)
 }
 
 /// An item, by the bytes of its word.

@@ -26,11 +26,7 @@ pub fn input_item(word: &[u8]) -> Option<Item>
 pub fn output_item(word: &[u8]) -> Option<Item>
     ensures { meant_by result ≡ output_item word.now }
 {
-    let item = input_item(word)?;
-    match item.role {
-        Role::Arc => Some(item),
-        Role::Inhibitor => None,
-    }
+    input_item(word).filter(|item| item.role == Role::Arc)
 }
 
 /// How many tokens a marking `(N)` says, 0 to 64; none where the word is no marking.

@@ -11,35 +11,29 @@ fn in_range(n: Numeral, least: u8, most: u8) -> Result<u8, NumberFault>
     ensures { result ≡ ranged least most n }
 {
     if n.padded {
-        Err(NumberFault::LeadingZero)
-    } else if n.value >= least as u32 && n.value <= most as u32 {
-        Ok(n.value as u8)
-    } else {
-        Err(NumberFault::OutOfRange)
+        return Err(NumberFault::LeadingZero);
     }
+    u8::try_from(n.value)
+        .ok()
+        .filter(|v| (least..=most).contains(v))
+        .ok_or(NumberFault::OutOfRange)
 }
 
 /// The value of digits, from the least to the most; none where they are no numeral.
 pub(crate) fn ranged_numeral(digits: &[u8], least: u8, most: u8) -> Option<Result<u8, NumberFault>>
     ensures { result ≡ ranged_numeral least most (numeral digits.now) }
 {
-    let n = read_numeral(digits)?;
-    Some(in_range(n, least, most))
+    read_numeral(digits).map(|n| in_range(n, least, most))
 }
 
 /// The bytes before a last `)`; none where the last byte is another.
 fn before_close(bytes: &[u8]) -> Option<&[u8]>
     ensures { MatchOption result (closed bytes.now ≡ None) (λ ds. closed bytes.now ≡ Some ds.now) }
 {
-    if bytes.is_empty() {
-        return None;
+    match bytes {
+        [digits @ .., b')'] => Some(digits),
+        _ => None,
     }
-    let last = bytes.len() - 1;
-    if bytes[last] != b')' {
-        return None;
-    }
-    let (digits, _) = bytes.split_at(last);
-    Some(digits)
 }
 
 /// The tokens of a marking, by what stands behind its `(`.

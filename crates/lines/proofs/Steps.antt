@@ -1,44 +1,38 @@
 -- The step of each cut.
-use Rattle.std.proofs.Common.{◌≡◌, ℕ, suc, ◌+◌, ◌<◌, ◌≤◌, Bool, true, false, cond, eqb, List, [], ◌∷◌, length, get_or, take, drop, sym, refl, ap, ◌∙◌, add-zero, add-one, arith}
-use Rattle.std.proofs.lemmas.List.{at_drop_more, at_drop_all, drop-drop}
+use Rattle.std.proofs.Common.{◌≡◌, ℕ, suc, ◌+◌, ◌<◌, Bool, true, false, cond, eqb, List, [], ◌∷◌, length, take, drop, sym, refl, ap, ◌∙◌, add-zero, add-one, arith}
+use Rattle.std.proofs.lemmas.List.{drop-drop}
 use Rattle.std.proofs.lemmas.Bool.{eq-eqb, ne_eqb}
 use Rattle.lines.specs.Counts.{before, leads}
 use Rattle.lines.specs.Lines.{in_front, lines}
 use Rattle.lines.specs.Parting.{front, from_front}
 use Rattle.lines.specs.Words.{Words, stop, word, begun, words}
 
--- one byte on, in a loop that counts
-module _ (b : ℕ) (xs : List ℕ) (n : ℕ) where
-  pub before_more : n < length xs → (get_or xs n 0 ≡ b → ⊥) → before b (drop n xs) ≡ suc (before b (drop (n + 1) xs))
-  before_more h ne = at_drop_more (before b) xs n 0 h ∙ rw (ne_eqb _ _ ne)
+-- the first byte of a list is b, or another
+module _ (b x : ℕ) (xs : List ℕ) where
+  before_here : eqb x b ≡ true → before b (x ∷ xs) ≡ 0
+  before_here e = rw e
 
-  pub before_here : n < length xs → get_or xs n 0 ≡ b → before b (drop n xs) ≡ 0
-  before_here h eq = at_drop_more (before b) xs n 0 h ∙ rw (eq-eqb _ _ eq)
+  before_past : eqb x b ≡ false → before b (x ∷ xs) ≡ suc (before b xs)
+  before_past e = rw e (omega arith)
 
-  pub before_none : length xs ≤ n → before b (drop n xs) ≡ 0
-  before_none h = at_drop_all (before b) xs n h
+  leads_here : eqb x b ≡ false → leads b (x ∷ xs) ≡ 0
+  leads_here e = rw e
 
-  pub leads_more : n < length xs → get_or xs n 0 ≡ b → leads b (drop n xs) ≡ suc (leads b (drop (n + 1) xs))
-  leads_more h eq = at_drop_more (leads b) xs n 0 h ∙ rw (eq-eqb _ _ eq)
-
-  pub leads_here : n < length xs → (get_or xs n 0 ≡ b → ⊥) → leads b (drop n xs) ≡ 0
-  leads_here h ne = at_drop_more (leads b) xs n 0 h ∙ rw (ne_eqb _ _ ne)
-
-  pub leads_none : length xs ≤ n → leads b (drop n xs) ≡ 0
-  leads_none h = at_drop_all (leads b) xs n h
+  leads_past : eqb x b ≡ true → leads b (x ∷ xs) ≡ suc (leads b xs)
+  leads_past e = rw e (omega arith)
 
 -- a text that is not empty: its first line, and the lines behind the LF that ends it
 line_cut : (x : ℕ) (xs : List ℕ) → lines (x ∷ xs) ≡ take (before 10 (x ∷ xs)) (x ∷ xs) ∷ lines (drop (suc (before 10 (x ∷ xs))) (x ∷ xs))
-line_cut x [] = at (eqb x 10)
+line_cut x [] = at (eqb x 10) refl
   where
-    at : (t : Bool) → cond t ([] ∷ []) ((x ∷ []) ∷ []) ≡ take (cond t 0 1) (x ∷ []) ∷ lines (drop (cond t 0 1) [])
-    at true = refl
-    at false = refl
-line_cut x (y ∷ ys) = at (eqb x 10) (line_cut y ys)
+    at : (t : Bool) → eqb x 10 ≡ t → cond t ([] ∷ []) ((x ∷ []) ∷ []) ≡ take (before 10 (x ∷ [])) (x ∷ []) ∷ lines (drop (suc (before 10 (x ∷ []))) (x ∷ []))
+    at true e = rw (before_here 10 x [] e)
+    at false e = rw (before_past 10 x [] e)
+line_cut x (y ∷ ys) = at (eqb x 10) refl (line_cut y ys)
   where
-    at : (t : Bool) → lines (y ∷ ys) ≡ take (before 10 (y ∷ ys)) (y ∷ ys) ∷ lines (drop (suc (before 10 (y ∷ ys))) (y ∷ ys)) → cond t ([] ∷ lines (y ∷ ys)) (in_front x (lines (y ∷ ys))) ≡ take (cond t 0 (suc (before 10 (y ∷ ys)))) (x ∷ y ∷ ys) ∷ lines (drop (cond t 0 (suc (before 10 (y ∷ ys)))) (y ∷ ys))
-    at true e = refl
-    at false e = ap (in_front x) e
+    at : (t : Bool) → eqb x 10 ≡ t → lines (y ∷ ys) ≡ take (before 10 (y ∷ ys)) (y ∷ ys) ∷ lines (drop (suc (before 10 (y ∷ ys))) (y ∷ ys)) → cond t ([] ∷ lines (y ∷ ys)) (in_front x (lines (y ∷ ys))) ≡ take (before 10 (x ∷ y ∷ ys)) (x ∷ y ∷ ys) ∷ lines (drop (suc (before 10 (x ∷ y ∷ ys))) (x ∷ y ∷ ys))
+    at true e h = rw (before_here 10 x (y ∷ ys) e)
+    at false e h = rw (before_past 10 x (y ∷ ys) e) (ap (in_front x) h)
 
 pub first_line : (text : List ℕ) {n : ℕ} {line rest behind : List ℕ} → 0 < length text → n ≡ before 10 text → line ≡ take n text → rest ≡ drop n text → behind ≡ drop 1 rest → lines text ≡ line ∷ lines behind
 first_line [] h en el er eb = absurd (omega arith)
@@ -47,26 +41,22 @@ first_line (x ∷ xs) h en el er eb =
     ap (λ k. take k (x ∷ xs) ∷ lines (drop (suc k) (x ∷ xs))) (sym en) ∙
     rw (el, eb, er, drop-drop 1 _ (x ∷ xs), add-one)
 
-pub no_lines : (text : List ℕ) → length text ≡ 0 → lines text ≡ []
-no_lines [] h = refl
-no_lines (x ∷ xs) h = absurd (omega arith)
-
 -- spaces in front only move the column
 pub past_gap : (c : ℕ) (xs : List ℕ) → words c xs ≡ words (c + leads 32 xs) (drop (leads 32 xs) xs)
 past_gap c [] = ap stop (sym (add-zero c))
 past_gap c (x ∷ xs) = at (eqb x 32) refl (past_gap (c + 1) xs)
   where
     at : (t : Bool) → eqb x 32 ≡ t → words (c + 1) xs ≡ words (c + 1 + leads 32 xs) (drop (leads 32 xs) xs) → words c (x ∷ xs) ≡ words (c + leads 32 (x ∷ xs)) (drop (leads 32 (x ∷ xs)) (x ∷ xs))
-    at true e more = rw e (more ∙ ap (λ d. words d (drop (leads 32 xs) xs)) (omega arith))
-    at false e more = let z : c + 0 ≡ c = add-zero c in simp (e, z)
+    at true e more = rw (leads_past 32 x xs e, e) (more ∙ ap (λ d. words d (drop (leads 32 xs) xs)) (omega arith))
+    at false e more = let z : c + 0 ≡ c = add-zero c in rw (leads_here 32 x xs e, z) refl
 
 gap_all : (xs : List ℕ) → leads 32 (drop (leads 32 xs) xs) ≡ 0
 gap_all [] = refl
 gap_all (x ∷ xs) = at (eqb x 32) refl (gap_all xs)
   where
     at : (t : Bool) → eqb x 32 ≡ t → leads 32 (drop (leads 32 xs) xs) ≡ 0 → leads 32 (drop (leads 32 (x ∷ xs)) (x ∷ xs)) ≡ 0
-    at true e h = rw e h
-    at false e h = simp e
+    at true e h = rw (leads_past 32 x xs e) h
+    at false e h = rw (leads_here 32 x xs e) (leads_here 32 x xs e)
 
 -- a byte before words that do not touch it is a word of its own
 alone : (c x : ℕ) (w : Words) → c + 1 < front w → begun c x w ≡ word c (x ∷ []) w
@@ -87,11 +77,11 @@ step c y (z ∷ zs) e more = ap (λ t. cond t (words (c + 1) (z ∷ zs)) (begun 
     at true f =
         let moved : words (c + 1) (z ∷ zs) ≡ words (c + 1 + 1) zs = ap (λ t. cond t (words (c + 1 + 1) zs) (begun (c + 1) z (words (c + 1 + 1) zs))) f in
         let far : c + 1 < front (words (c + 1) (z ∷ zs)) = omega (arith, ap front moved, from_front (c + 1 + 1) zs) in
-        let none : before 32 (z ∷ zs) ≡ 0 = ap (λ t. cond t 0 (suc (before 32 zs))) f in
+        let none : before 32 (z ∷ zs) ≡ 0 = before_here 32 z zs f in
         alone c y (words (c + 1) (z ∷ zs)) far ∙ ap (λ k. word c (y ∷ take k (z ∷ zs)) (words (c + suc k) (drop k (z ∷ zs)))) (sym none)
     at false f =
-        let open-front : leads 32 (z ∷ zs) ≡ 0 = ap (λ t. cond t (suc (leads 32 zs)) 0) f in
-        let long : before 32 (z ∷ zs) ≡ suc (before 32 zs) = ap (λ t. cond t 0 (suc (before 32 zs))) f in
+        let open-front : leads 32 (z ∷ zs) ≡ 0 = leads_here 32 z zs f in
+        let long : before 32 (z ∷ zs) ≡ suc (before 32 zs) = before_past 32 z zs f in
         ap (begun c y) ((more open-front).some (omega arith)) ∙
         ap (λ t. cond t (word c (y ∷ take (before 32 (z ∷ zs)) (z ∷ zs)) (words (c + 1 + before 32 (z ∷ zs)) (drop (before 32 (z ∷ zs)) (z ∷ zs)))) (word c (y ∷ []) (word (c + 1) (take (before 32 (z ∷ zs)) (z ∷ zs)) (words (c + 1 + before 32 (z ∷ zs)) (drop (before 32 (z ∷ zs)) (z ∷ zs)))))) (eq-eqb (c + 1) (c + 1) refl) ∙
         ap (λ d. word c (y ∷ take (before 32 (z ∷ zs)) (z ∷ zs)) (words d (drop (before 32 (z ∷ zs)) (z ∷ zs)))) (omega arith)
@@ -101,9 +91,9 @@ first c [] h = record { none = λ _. ap stop (sym (add-zero c)); some = λ lt. a
 first c (y ∷ ys) h = at (eqb y 32) refl (first (c + 1) ys)
   where
     at : (t : Bool) → eqb y 32 ≡ t → (leads 32 ys ≡ 0 → First (c + 1) ys (before 32 ys)) → First c (y ∷ ys) (before 32 (y ∷ ys))
-    at true e more = absurd (omega (arith, ap (λ t. cond t (suc (leads 32 ys)) 0) e))
+    at true e more = absurd (omega (arith, leads_past 32 y ys e))
     at false e more =
-        let long : before 32 (y ∷ ys) ≡ suc (before 32 ys) = ap (λ t. cond t 0 (suc (before 32 ys))) e in
+        let long : before 32 (y ∷ ys) ≡ suc (before 32 ys) = before_past 32 y ys e in
         record {
           none = λ z. absurd (omega arith);
           some = λ _. step c y ys e more ∙ ap (λ k. word c (take k (y ∷ ys)) (words (c + k) (drop k (y ∷ ys)))) (sym long);
@@ -126,8 +116,8 @@ next_all [] l b = refl
 next_all (x ∷ xs) l b = at (eqb x 32) refl
   where
     at : (t : Bool) → eqb x 32 ≡ t → length (x ∷ xs) ≡ 0
-    at true e = absurd (omega (arith, ap (λ t. cond t (suc (leads 32 xs)) 0) e))
-    at false e = absurd (omega (arith, ap (λ t. cond t 0 (suc (before 32 xs))) e))
+    at true e = absurd (omega (arith, leads_past 32 x xs e))
+    at false e = absurd (omega (arith, before_past 32 x xs e))
 
 pub nothing_left : (xs : List ℕ) {g n : ℕ} {ys zs : List ℕ} → g ≡ leads 32 xs → ys ≡ drop g xs → n ≡ before 32 ys → zs ≡ drop n ys → n ≡ 0 → length zs ≡ 0
 nothing_left xs eg ey en ez z = rw (ez, z, ey, eg) (next_all (drop (leads 32 xs) xs) (gap_all xs) (rw (ey, eg) at (sym en ∙ z)))

@@ -1,17 +1,16 @@
 -- The laws of lines and words. Assumes nothing.
-use Rattle.std.specs.Prelude.{◌≡◌, ℕ, ◌+◌, ◌<◌, ◌≤◌, Bool, false, cond, ◌||◌, List, [], ◌∷◌, ◌++◌, length, ◌==◌}
+use Rattle.std.specs.Prelude.{◌≡◌, ℕ, ◌+◌, ◌<◌, ◌≤◌, Bool, false, cond, List, [], ◌∷◌, ◌++◌, length, ◌==◌}
+use Rattle.std.specs.List.{AllByRecursion, list_any}
 use Rattle.lines.specs.Lines.{lines, ended, lacks_last}
 use Rattle.lines.specs.Words.{Words, stop, word, words, put_back}
 
 -- the byte b stands in the list
 abbrev pub holds : ℕ → List ℕ → Bool
-holds b [] = false
-holds b (x ∷ xs) = x == b || holds b xs
+holds b xs = list_any (λ x. x == b) xs
 
 -- no line of the list has LF in it
 abbrev pub Unbroken : List (List ℕ) → Type 0
-Unbroken [] = Unit {0}
-Unbroken (line ∷ more) = (holds 10 line ≡ false) × Unbroken more
+Unbroken ls = AllByRecursion (λ line. holds 10 line ≡ false) ls
 
 -- the lines of a text, each with LF behind it, are the text, with one LF more where the text's last line lacks it; no line has LF in it
 abbrev pub LinesJoin : Type 0

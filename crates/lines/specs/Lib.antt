@@ -5,3 +5,4 @@ pub mod Parting
 pub mod Parts
 pub mod Cursors
 pub mod Counts
+pub mod Listing

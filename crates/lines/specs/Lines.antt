@@ -1,10 +1,10 @@
 -- A text, which is a list of bytes, as lines. The byte 10 is LF. Assumes nothing.
 use Rattle.std.specs.Prelude.{ℕ, Bool, false, cond, not, List, [], ◌∷◌, ◌++◌, ◌==◌}
+use Rattle.std.specs.List.{onto_first}
 
 -- the byte b in front of the first line; where there is no line, a line of its own
 abbrev pub in_front : ℕ → List (List ℕ) → List (List ℕ)
-in_front b [] = (b ∷ []) ∷ []
-in_front b (line ∷ more) = (b ∷ line) ∷ more
+in_front b more = onto_first b more
 
 -- the lines of a text: LF ends a line, and the last line may lack it
 abbrev pub lines : List ℕ → List (List ℕ)

@@ -1,32 +1,14 @@
 //! Looking for a byte.
-ghost use Rattle.std.specs.Prelude.{◌≡◌, ◌-◌, ◌≤◌, length, drop};
-ghost use Rattle.lines.specs.Counts.{before, leads};
-ghost use Rattle.std.specs.Str.{bytes_eq};
+ghost use Rattle.std.specs.Prelude.{◌≡◌, ℕ, ◌-◌, ◌≤◌, Bool, length, drop};
+ghost use Rattle.std.specs.List.{prefix_len};
 
-/// How many bytes stand before the first `b`.
-pub(crate) fn until(bytes: &[u8], b: u8) -> usize
-    ensures value { result ≡ before b bytes.now }
+/// How many bytes in front pass a test.
+pub(crate) fn leading<F: Fn(u8) -> bool>(bytes: &[u8], passes: F) -> usize
+    requires { F.IsAlwaysCallable passes }
+    ensures value { (p : ℕ → Bool) → ((x : ℕ) (r : Bool) → F.post passes x r → r ≡ p x) → result ≡ prefix_len p bytes.now }
     ensures within { result ≤ length bytes.now }
 {
-    for (i, x) in bytes.iter().enumerate() {
-        if *x == b {
-            return i;
-        }
-    }
-    bytes.len()
-}
-
-/// How many bytes in front are `b`.
-pub(crate) fn leading(bytes: &[u8], b: u8) -> usize
-    ensures value { result ≡ leads b bytes.now }
-    ensures within { result ≤ length bytes.now }
-{
-    for (i, x) in bytes.iter().enumerate() {
-        if *x != b {
-            return i;
-        }
-    }
-    bytes.len()
+    bytes.iter().take_while(|x| passes(**x)).count()
 }
 
 /// The bytes behind the first.
@@ -34,12 +16,5 @@ pub(crate) fn past_first(bytes: &[u8]) -> &[u8]
     ensures value { result.now ≡ drop 1 bytes.now }
     ensures shorter { length result.now ≡ length bytes.now - 1 }
 {
-    if bytes.is_empty() { bytes } else { &bytes[1..] }
-}
-
-/// Whether two runs of bytes are the same.
-pub(crate) fn same(bytes: &[u8], others: &[u8]) -> bool
-    ensures { result ≡ bytes_eq bytes.now others.now }
-{
-    bytes == others
+    bytes.get(1..).unwrap_or(bytes)
 }

@@ -1,5 +1,5 @@
 /// A cursor over the lines of a text: what it has yet to give.
-#[derive(Clone, Copy)]
+#[derive(Clone, Copy, Debug)]
 pub struct LineCursor<'a> {
     rest: &'a [u8],
 }

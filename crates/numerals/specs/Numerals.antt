@@ -1,5 +1,6 @@
 -- Numbers as texts write them. The bytes 48 to 57 are the digits. Assumes nothing.
-use Rattle.std.specs.Prelude.{ℕ, ◌+◌, ◌-◌, ◌*◌, Bool, true, false, cond, ◌&&◌, List, [], ◌∷◌, length, Some, None, Option, ◌==◌, nat_le}
+use Rattle.std.specs.Prelude.{ℕ, ◌+◌, ◌-◌, ◌*◌, Bool, false, cond, ◌&&◌, List, [], ◌∷◌, length, Some, None, Option, ◌==◌, nat_le}
+use Rattle.std.specs.List.{fold, list_all}
 use Rattle.numerals.specs.declared.Numeral.{Numeral}
 
 -- an ASCII digit
@@ -8,8 +9,7 @@ is_digit b = nat_le 48 b && nat_le b 57
 
 -- every byte is a digit
 abbrev pub all_digits : List ℕ → Bool
-all_digits [] = true
-all_digits (b ∷ bs) = is_digit b && all_digits bs
+all_digits bs = list_all is_digit bs
 
 -- a numeral: one to five digits
 abbrev pub is_numeral : List ℕ → Bool
@@ -17,8 +17,7 @@ is_numeral bs = (nat_le 1 (length bs) && nat_le (length bs) 5) && all_digits bs
 
 -- the value of digits behind others whose value is n
 abbrev pub value_after : ℕ → List ℕ → ℕ
-value_after n [] = n
-value_after n (b ∷ bs) = value_after (n * 10 + (b - 48)) bs
+value_after n bs = fold (λ n b. n * 10 + (b - 48)) n bs
 
 -- a zero stands before another digit
 abbrev pub starts_with_zero : List ℕ → Bool

@@ -3,11 +3,12 @@
 #![tactic(auto)]
 
 ghost use Rattle.std.specs.Prelude.{◌≡◌, true};
-ghost use Rattle.numerals.specs.Numerals.{all_digits, is_digit, is_numeral, numeral, starts_with_zero, value_after};
+ghost use Rattle.numerals.specs.Numerals.{all_digits, is_numeral, numeral, starts_with_zero, value_after};
 
 /// A number that was written out: its value, and whether a zero stands before another digit.
-#[derive(Clone, Copy)]
+#[derive(Clone, Copy, Debug, PartialEq, Eq)]
 pub struct Numeral {
+    // The value stands where the numeral is padded too: to one reader the number is wrong then, to another its form.
     pub value: u32,
     pub padded: bool,
 }
@@ -16,33 +17,17 @@ pub struct Numeral {
 pub fn read_numeral(word: &[u8]) -> Option<Numeral>
     ensures { result ≡ numeral word.now }
 {
-    if is_numeral(word) {
-        Some(Numeral {
-            value: value(word),
-            padded: starts_with_zero(word),
-        })
-    } else {
-        None
-    }
-}
-
-/// Whether a byte is a digit.
-fn is_digit(b: u8) -> bool
-    ensures { result ≡ is_digit b }
-{
-    matches!(b, b'0'..=b'9')
+    is_numeral(word).then(|| Numeral {
+        value: value(word),
+        padded: starts_with_zero(word),
+    })
 }
 
 /// Whether every byte is a digit.
 fn all_digits(word: &[u8]) -> bool
     ensures { result ≡ all_digits word.now }
 {
-    for b in word {
-        if !is_digit(*b) {
-            return false;
-        }
-    }
-    true
+    word.iter().all(|b| b.is_ascii_digit())
 }
 
 /// Whether a word is one to five digits.
@@ -56,7 +41,7 @@ fn is_numeral(word: &[u8]) -> bool
 fn starts_with_zero(word: &[u8]) -> bool
     ensures { result ≡ starts_with_zero word.now }
 {
-    word.len() >= 2 && word[0] == b'0'
+    matches!(word, [b'0', _, ..])
 }
 
 /// The value of one to five digits.
@@ -64,9 +49,5 @@ fn value(word: &[u8]) -> u32
     requires { is_numeral word.now ≡ true }
     ensures { result ≡ value_after 0 word.now }
 {
-    let mut n = 0;
-    for b in word {
-        n = n * 10 + (*b - b'0') as u32;
-    }
-    n
+    word.iter().fold(0, |n, b| n * 10 + u32::from(b - b'0'))
 }

@@ -6,7 +6,7 @@ use Rattle.lines.specs.Laws.{Parted}
 use Rattle.lines.specs.Parting.{parted}
 use Rattle.lines.specs.Words.{Words, stop, word, words}
 use Rattle.numerals.specs.Numerals.{numeral}
-use Rattle.relation_texts.specs.Forms.{OfLine, then, no_form, misfit, plain, counted, number_first, last, two_numbers, header_line, edge_line, letter, said, says}
+use Rattle.relation_texts.specs.Forms.{OfLine, then, no_form, misfit, plain, counted, number_first, last, two_numbers, header_line, edge_line, letter, said_by, said, says}
 use Rattle.relation_texts.specs.declared.forms.Count.{Count}
 use Rattle.relation_texts.specs.declared.forms.Said.{Said}
 use Rattle.relation_texts.specs.declared.forms.Said.TheVariants.{Nothing, Header, Edge}
@@ -48,12 +48,16 @@ formal_header c (word d bs more) =
     formal_cond (bytes_eq bs (codes "edge")) (then (two_numbers more) (λ n. Ok (Header c n.0 n.1))) (misfit d)
     (formal_then (two_numbers more) (λ n. Ok (Header c n.0 n.1)) (formal_two more) (λ n. tt)) refl
 
+formal_letter : (c : ℕ) (o : Option ℕ) (more : Words) → Formal (said_by o c more)
+formal_letter c None more = refl
+formal_letter c (Some b) more =
+    formal_cond (eqb b 99) (Ok Nothing) (cond (eqb b 112) (header_line c more) (cond (eqb b 101) (edge_line c more) (misfit c))) tt
+    (formal_cond (eqb b 112) (header_line c more) (cond (eqb b 101) (edge_line c more) (misfit c)) (formal_header c more)
+    (formal_cond (eqb b 101) (edge_line c more) (misfit c) (formal_then (two_numbers more) (λ n. Ok (Edge c n.0 n.1)) (formal_two more) (λ n. tt)) refl))
+
 formal_said : (w : Words) → Formal (said w)
 formal_said (stop c) = tt
-formal_said (word c bs more) =
-    formal_cond (eqb (letter bs) 99) (Ok Nothing) (cond (eqb (letter bs) 112) (header_line c more) (cond (eqb (letter bs) 101) (edge_line c more) (misfit c))) tt
-    (formal_cond (eqb (letter bs) 112) (header_line c more) (cond (eqb (letter bs) 101) (edge_line c more) (misfit c)) (formal_header c more)
-    (formal_cond (eqb (letter bs) 101) (edge_line c more) (misfit c) (formal_then (two_numbers more) (λ n. Ok (Edge c n.0 n.1)) (formal_two more) (λ n. tt)) refl))
+formal_said (word c bs more) = formal_letter c (letter bs) more
 
 pub formal_by : (w : Words) (f : Flaw LineFault) → said w ≡ Err f → f ≡ no_form f.column
 formal_by w f e = subst (λ r. Formal r) e (formal_said w)
@@ -106,12 +110,16 @@ ordered_behind_p : (c : ℕ) (w : Words) → Ordered (header_line c w)
 ordered_behind_p c (stop d) = tt
 ordered_behind_p c (word d bs more) = ordered_cond (bytes_eq bs (codes "edge")) (then (two_numbers more) (λ n. Ok (Header c n.0 n.1))) (misfit d) (ordered_header c (two_numbers more)) tt
 
+ordered_letter : (c : ℕ) (o : Option ℕ) (more : Words) → Parted more → Ordered (said_by o c more)
+ordered_letter c None more p = tt
+ordered_letter c (Some b) more p =
+    ordered_cond (eqb b 99) (Ok Nothing) (cond (eqb b 112) (header_line c more) (cond (eqb b 101) (edge_line c more) (misfit c))) tt
+    (ordered_cond (eqb b 112) (header_line c more) (cond (eqb b 101) (edge_line c more) (misfit c)) (ordered_behind_p c more)
+    (ordered_cond (eqb b 101) (edge_line c more) (misfit c) (ordered_edge c (two_numbers more) (rising_two more p)) tt))
+
 ordered_said : (w : Words) → Parted w → Ordered (said w)
 ordered_said (stop c) p = tt
-ordered_said (word c bs more) p =
-    ordered_cond (eqb (letter bs) 99) (Ok Nothing) (cond (eqb (letter bs) 112) (header_line c more) (cond (eqb (letter bs) 101) (edge_line c more) (misfit c))) tt
-    (ordered_cond (eqb (letter bs) 112) (header_line c more) (cond (eqb (letter bs) 101) (edge_line c more) (misfit c)) (ordered_behind_p c more)
-    (ordered_cond (eqb (letter bs) 101) (edge_line c more) (misfit c) (ordered_edge c (two_numbers more) (rising_two more p.3)) tt))
+ordered_said (word c bs more) p = ordered_letter c (letter bs) more p.3
 
 pub edge_columns : (line : List ℕ) {c : ℕ} {left right : Count} → says line ≡ Ok (Edge c left right) → left.column ≤ right.column
 edge_columns line e = subst (λ r. Ordered r) e (ordered_said (words 1 line) (parted 1 line))

@@ -1,5 +1,6 @@
 -- Lists of lines that are taken apart, and lines that stand in them.
 use Rattle.std.proofs.Common.{◌≡◌, ℕ, ◌+◌, ◌⊎◌, List, [], ◌∷◌, ◌++◌, refl, inl, inr, arith}
+use Rattle.std.proofs.lemmas.List.Sums.{sum_by-append}
 use Rattle.relation_texts.specs.Forms.{says}
 use Rattle.relation_texts.specs.Exactly.{SomeLine, edge_count, edges_in}
 
@@ -38,5 +39,4 @@ module _ (P : List ℕ → Type 0) where
   some_cases (l ∷ ls) line (inr h) = elim (some_cases ls line h) [ inl k ↦ inl (inr k) | inr k ↦ inr k ]
 
 pub edges_more : (ls : List (List ℕ)) (line : List ℕ) → edges_in (ls ++ line ∷ []) ≡ edges_in ls + edge_count (says line)
-edges_more [] line = omega arith
-edges_more (l ∷ ls) line = omega (arith, edges_more ls line)
+edges_more ls line = omega (arith, sum_by-append (λ l. edge_count (says l)) ls (line ∷ []))

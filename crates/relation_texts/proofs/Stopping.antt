@@ -2,7 +2,7 @@
 use Rattle.std.proofs.Common.{◌≡◌, ℕ, Bool, true, false, cond, eqb, ◌⊎◌, List, [], ◌∷◌, ◌++◌, get_or, Some, None, Ok, Err, codes, Option, sym, refl, ap, ◌∙◌, subst, inl, inr, arith}
 use Rattle.lines.specs.Words.{Words, stop, word}
 use Rattle.numerals.specs.Numerals.{numeral}
-use Rattle.relation_texts.specs.Forms.{OfLine, then, no_form, misfit, plain, counted, number_first, last, two_numbers, header_line, edge_line, letter, said}
+use Rattle.relation_texts.specs.Forms.{OfLine, then, no_form, misfit, plain, counted, number_first, last, two_numbers, header_line, edge_line, letter, said_by, said}
 use Rattle.relation_texts.specs.Misfits.{IsNumber, Fits, blank, comment, header, edge, Begins, StopsAt, at_token, at_end, further, MisfitsExactly}
 use Rattle.relation_texts.specs.Written.{LineWritten}
 use Rattle.relation_texts.specs.Written as written
@@ -11,10 +11,10 @@ use Rattle.relation_texts.specs.declared.forms.Said.{Said}
 use Rattle.relation_texts.specs.declared.forms.Said.TheVariants.{Nothing, Header, Edge}
 use Rattle.std.proofs.lemmas.Slice.Eq.{bytes_eq-Decides}
 use Rattle.std.proofs.lemmas.List.{append_assoc, append-nil}
-use Rattle.std.proofs.lemmas.Bool.{eqb-true, eqb-false}
+use Rattle.std.proofs.lemmas.Bool.{eqb-false}
 use Rattle.std.specs.Str.{bytes_eq}
 use Rattle.relation_texts.proofs.Columns.{formal_by}
-use Rattle.relation_texts.proofs.WrittenLines.{letter_is, forms_exactly}
+use Rattle.relation_texts.proofs.WrittenLines.{letter_at, forms_exactly}
 
 -- keywords are apart
 c_not_p : codes "p" ≡ codes "c" → ⊥
@@ -155,26 +155,38 @@ first_token (edge e n m) = inr (inr e)
 
 said_stops : (w : Words) (c : ℕ) → said w ≡ misfit c → StopsAt [] w c
 said_stops (stop d) c h = let z : ◌≡◌ {A = ℕ} 0 1 = cc in absurd (omega arith)
-said_stops (word d bs w) c h = by_c (eqb (letter bs) 99) refl h
+said_stops (word d bs w) c h = at (letter bs) refl h
   where
-    other : eqb (letter bs) 99 ≡ false → eqb (letter bs) 112 ≡ false → eqb (letter bs) 101 ≡ false → Begins (bs ∷ []) → ⊥
-    other e f g b = elim (first_token b.1) [
-      | inl i ↦ eqb-false (letter bs) 99 e (ap letter i)
-      | inr (inl i) ↦ eqb-false (letter bs) 112 f (ap letter i)
-      | inr (inr i) ↦ eqb-false (letter bs) 101 g (ap letter i)
+    -- no line begins with a word that is none of the keywords
+    other : (b : ℕ) → letter bs ≡ Some b → eqb b 99 ≡ false → eqb b 112 ≡ false → eqb b 101 ≡ false → Begins (bs ∷ []) → ⊥
+    other b l e f g s = elim (first_token s.1) [
+      | inl i ↦ eqb-false b 99 e (let k : Some b ≡ Some 99 = sym l ∙ ap letter i in cc)
+      | inr (inl i) ↦ eqb-false b 112 f (let k : Some b ≡ Some 112 = sym l ∙ ap letter i in cc)
+      | inr (inr i) ↦ eqb-false b 101 g (let k : Some b ≡ Some 101 = sym l ∙ ap letter i in cc)
     ]
 
-    by_e : eqb (letter bs) 99 ≡ false → eqb (letter bs) 112 ≡ false → (t : Bool) → eqb (letter bs) 101 ≡ t → cond t (edge_line d w) (misfit d) ≡ misfit c → StopsAt [] (word d bs w) c
-    by_e f g true e h = subst (λ cs. StopsAt [] (word d cs w) c) (letter_is bs 101 (λ z. omega arith) (eqb-true (letter bs) 101 e)) (further (codes "0" ∷ codes "0" ∷ [], edge refl some_number some_number) (two_stops (codes "e" ∷ []) behind_e w c (under (two_numbers w) (λ n. Edge d n.0 n.1) c h)))
-    by_e f g false e h = subst (StopsAt [] (word d bs w)) (same_column c d h) (at_token (other f g e))
+    no_letter : letter bs ≡ None → Begins (bs ∷ []) → ⊥
+    no_letter l s = elim (first_token s.1) [
+      | inl i ↦ let k : ◌≡◌ {A = Option ℕ} None (Some 99) = sym l ∙ ap letter i in let z : ◌≡◌ {A = ℕ} 0 1 = cc in omega arith
+      | inr (inl i) ↦ let k : ◌≡◌ {A = Option ℕ} None (Some 112) = sym l ∙ ap letter i in let z : ◌≡◌ {A = ℕ} 0 1 = cc in omega arith
+      | inr (inr i) ↦ let k : ◌≡◌ {A = Option ℕ} None (Some 101) = sym l ∙ ap letter i in let z : ◌≡◌ {A = ℕ} 0 1 = cc in omega arith
+    ]
 
-    by_p : eqb (letter bs) 99 ≡ false → (t : Bool) → eqb (letter bs) 112 ≡ t → cond t (header_line d w) (cond (eqb (letter bs) 101) (edge_line d w) (misfit d)) ≡ misfit c → StopsAt [] (word d bs w) c
-    by_p f true e h = subst (λ cs. StopsAt [] (word d cs w) c) (letter_is bs 112 (λ z. omega arith) (eqb-true (letter bs) 112 e)) (further (codes "edge" ∷ codes "0" ∷ codes "0" ∷ [], header refl refl some_number some_number) (header_stops w d c h))
-    by_p f false e h = by_e f e (eqb (letter bs) 101) refl h
+    by_e : (b : ℕ) → letter bs ≡ Some b → eqb b 99 ≡ false → eqb b 112 ≡ false → (t : Bool) → eqb b 101 ≡ t → cond t (edge_line d w) (misfit d) ≡ misfit c → StopsAt [] (word d bs w) c
+    by_e b l e f true g h = subst (λ cs. StopsAt [] (word d cs w) c) (letter_at bs b 101 l g) (further (codes "0" ∷ codes "0" ∷ [], edge refl some_number some_number) (two_stops (codes "e" ∷ []) behind_e w c (under (two_numbers w) (λ n. Edge d n.0 n.1) c h)))
+    by_e b l e f false g h = subst (StopsAt [] (word d bs w)) (same_column c d h) (at_token (other b l e f g))
 
-    by_c : (t : Bool) → eqb (letter bs) 99 ≡ t → cond t (Ok Nothing) (cond (eqb (letter bs) 112) (header_line d w) (cond (eqb (letter bs) 101) (edge_line d w) (misfit d))) ≡ misfit c → StopsAt [] (word d bs w) c
-    by_c true e h = let z : ◌≡◌ {A = ℕ} 0 1 = cc in absurd (omega arith)
-    by_c false e h = by_p e (eqb (letter bs) 112) refl h
+    by_p : (b : ℕ) → letter bs ≡ Some b → eqb b 99 ≡ false → (t : Bool) → eqb b 112 ≡ t → cond t (header_line d w) (cond (eqb b 101) (edge_line d w) (misfit d)) ≡ misfit c → StopsAt [] (word d bs w) c
+    by_p b l e true f h = subst (λ cs. StopsAt [] (word d cs w) c) (letter_at bs b 112 l f) (further (codes "edge" ∷ codes "0" ∷ codes "0" ∷ [], header refl refl some_number some_number) (header_stops w d c h))
+    by_p b l e false f h = by_e b l e f (eqb b 101) refl h
+
+    by_c : (b : ℕ) → letter bs ≡ Some b → (t : Bool) → eqb b 99 ≡ t → cond t (Ok Nothing) (cond (eqb b 112) (header_line d w) (cond (eqb b 101) (edge_line d w) (misfit d))) ≡ misfit c → StopsAt [] (word d bs w) c
+    by_c b l true e h = let z : ◌≡◌ {A = ℕ} 0 1 = cc in absurd (omega arith)
+    by_c b l false e h = by_p b l e (eqb b 112) refl h
+
+    at : (o : Option ℕ) → letter bs ≡ o → said_by o d w ≡ misfit c → StopsAt [] (word d bs w) c
+    at None l h = subst (StopsAt [] (word d bs w)) (same_column c d h) (at_token (no_letter l))
+    at (Some b) l h = by_c b l (eqb b 99) refl h
 
 -- a line stops fitting at one column, and then it fits no form
 stops_once : {before : List (List ℕ)} {w : Words} {c d : ℕ} → StopsAt before w c → StopsAt before w d → c ≡ d

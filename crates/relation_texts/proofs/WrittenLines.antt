@@ -1,8 +1,8 @@
 -- A line says something exactly when it is so written.
-use Rattle.std.proofs.Common.{◌≡◌, ℕ, Bool, true, false, cond, eqb, List, [], ◌∷◌, Some, None, Ok, Err, codes, Option, sym, refl, ap, subst, arith}
+use Rattle.std.proofs.Common.{◌≡◌, ℕ, Bool, true, false, cond, eqb, List, [], ◌∷◌, Some, None, Ok, Err, codes, Option, sym, refl, ap, ◌∙◌, subst, arith}
 use Rattle.lines.specs.Words.{Words, stop, word}
 use Rattle.numerals.specs.Numerals.{numeral}
-use Rattle.relation_texts.specs.Forms.{OfLine, then, misfit, plain, counted, number_first, last, two_numbers, header_line, edge_line, letter, said}
+use Rattle.relation_texts.specs.Forms.{OfLine, then, misfit, plain, counted, number_first, last, two_numbers, header_line, edge_line, letter, said_by, said}
 use Rattle.relation_texts.specs.Written.{Writes, LineWritten, blank, comment, header, edge, FormsExactly}
 use Rattle.relation_texts.specs.declared.forms.Count.{Count}
 use Rattle.relation_texts.specs.declared.forms.Said.{Said}
@@ -70,28 +70,36 @@ header_written c (word d bs w) s h = at (bytes_eq bs (codes "edge")) refl h
     at false e h = let z : ◌≡◌ {A = ℕ} 0 1 = cc in absurd (omega arith)
 
 -- the byte of a word of one byte
-pub letter_is : (bs : List ℕ) (b : ℕ) → (b ≡ 0 → ⊥) → letter bs ≡ b → b ∷ [] ≡ bs
-letter_is [] b none e = absurd (none (sym e))
-letter_is (x ∷ []) b none e = ap (λ y. y ∷ []) (sym e)
-letter_is (x ∷ y ∷ bs) b none e = absurd (none (sym e))
+pub letter_is : (bs : List ℕ) (b : ℕ) → letter bs ≡ Some b → b ∷ [] ≡ bs
+letter_is [] b e = let z : ◌≡◌ {A = ℕ} 0 1 = cc in absurd (omega arith)
+letter_is (x ∷ []) b e = let same : x ≡ b = cc in ap (λ y. y ∷ []) (sym same)
+letter_is (x ∷ y ∷ bs) b e = let z : ◌≡◌ {A = ℕ} 0 1 = cc in absurd (omega arith)
+
+-- a word whose byte is the one that a test compares it with
+pub letter_at : (bs : List ℕ) (b l : ℕ) → letter bs ≡ Some b → eqb b l ≡ true → l ∷ [] ≡ bs
+letter_at bs b l e f = letter_is bs l (e ∙ ap Some (eqb-true b l f))
 
 said_written : (w : Words) (s : Said) → said w ≡ Ok s → LineWritten w s
 said_written (stop c) s h = let nothing_said : Nothing ≡ s = cc in subst (LineWritten (stop c)) nothing_said blank
-said_written (word c bs w) s h = by_c (eqb (letter bs) 99) refl h
+said_written (word c bs w) s h = at (letter bs) refl h
   where
-    by_e : (t : Bool) → eqb (letter bs) 101 ≡ t → cond t (edge_line c w) (misfit c) ≡ Ok s → LineWritten (word c bs w) s
-    by_e true e h = subst (λ cs. LineWritten (word c cs w) s) (letter_is bs 101 (λ z. omega arith) (eqb-true (letter bs) 101 e)) (edge_numbers c w s (two_numbers w) refl h)
-    by_e false e h = let z : ◌≡◌ {A = ℕ} 0 1 = cc in absurd (omega arith)
+    by_e : (b : ℕ) → letter bs ≡ Some b → (t : Bool) → eqb b 101 ≡ t → cond t (edge_line c w) (misfit c) ≡ Ok s → LineWritten (word c bs w) s
+    by_e b l true e h = subst (λ cs. LineWritten (word c cs w) s) (letter_at bs b 101 l e) (edge_numbers c w s (two_numbers w) refl h)
+    by_e b l false e h = let z : ◌≡◌ {A = ℕ} 0 1 = cc in absurd (omega arith)
 
-    by_p : (t : Bool) → eqb (letter bs) 112 ≡ t → cond t (header_line c w) (cond (eqb (letter bs) 101) (edge_line c w) (misfit c)) ≡ Ok s → LineWritten (word c bs w) s
-    by_p true e h = subst (λ cs. LineWritten (word c cs w) s) (letter_is bs 112 (λ z. omega arith) (eqb-true (letter bs) 112 e)) (header_written c w s h)
-    by_p false e h = by_e (eqb (letter bs) 101) refl h
+    by_p : (b : ℕ) → letter bs ≡ Some b → (t : Bool) → eqb b 112 ≡ t → cond t (header_line c w) (cond (eqb b 101) (edge_line c w) (misfit c)) ≡ Ok s → LineWritten (word c bs w) s
+    by_p b l true e h = subst (λ cs. LineWritten (word c cs w) s) (letter_at bs b 112 l e) (header_written c w s h)
+    by_p b l false e h = by_e b l (eqb b 101) refl h
 
-    by_c : (t : Bool) → eqb (letter bs) 99 ≡ t → cond t (Ok Nothing) (cond (eqb (letter bs) 112) (header_line c w) (cond (eqb (letter bs) 101) (edge_line c w) (misfit c))) ≡ Ok s → LineWritten (word c bs w) s
-    by_c true e h =
+    by_c : (b : ℕ) → letter bs ≡ Some b → (t : Bool) → eqb b 99 ≡ t → cond t (Ok Nothing) (cond (eqb b 112) (header_line c w) (cond (eqb b 101) (edge_line c w) (misfit c))) ≡ Ok s → LineWritten (word c bs w) s
+    by_c b l true e h =
         let nothing_said : Nothing ≡ s = cc in
-        subst (LineWritten (word c bs w)) nothing_said (subst (λ cs. LineWritten (word c cs w) Nothing) (letter_is bs 99 (λ z. omega arith) (eqb-true (letter bs) 99 e)) comment)
-    by_c false e h = by_p (eqb (letter bs) 112) refl h
+        subst (LineWritten (word c bs w)) nothing_said (subst (λ cs. LineWritten (word c cs w) Nothing) (letter_at bs b 99 l e) comment)
+    by_c b l false e h = by_p b l (eqb b 112) refl h
+
+    at : (o : Option ℕ) → letter bs ≡ o → said_by o c w ≡ Ok s → LineWritten (word c bs w) s
+    at None l h = let z : ◌≡◌ {A = ℕ} 0 1 = cc in absurd (omega arith)
+    at (Some b) l h = by_c b l (eqb b 99) refl h
 
 pub forms_exactly : FormsExactly
 forms_exactly w s = (said_written w s, written_read)

@@ -1,5 +1,5 @@
 -- Which faults a relation text has, told line by line, which of them is reported, and which relation is read. Assumes nothing.
-use Rattle.std.specs.Prelude.{◌≡◌, ℕ, ◌+◌, ◌<◌, ◌≤◌, true, ◌⊎◌, ◌↔◌, List, [], ◌∷◌, ◌++◌, length, Ok, Err, ◌≢◌}
+use Rattle.std.specs.Prelude.{◌≡◌, ℕ, ◌+◌, ◌<◌, ◌≤◌, true, ◌⊎◌, ◌↔◌, List, [], ◌∷◌, ◌++◌, length, sum_by, Ok, Err, ◌≢◌}
 use Rattle.faults.specs.Faults.{Fault, in_line}
 use Rattle.faults.specs.Numbers.{line_fault}
 use Rattle.faults.specs.declared.causes.Cause.TheVariants.{RelationTooLong}
@@ -27,7 +27,7 @@ IsHeader line = (c : ℕ) × ((places : Count) × ((pairs : Count) × (says line
 abbrev pub IsEdge : ℕ → ℕ → List ℕ → Type 0
 IsEdge w v line = (c : ℕ) × ((left : Count) × ((right : Count) × ((says line ≡ Ok (Edge c left right)) × ((left.value ≡ w) × (right.value ≡ v)))))
 
--- how many lines are edges
+-- how many edges a line is: one or none; and how many of the lines are edges
 abbrev pub edge_count : OfLine Said → ℕ
 edge_count (Err f) = 0
 edge_count (Ok Nothing) = 0
@@ -35,8 +35,7 @@ edge_count (Ok (Header c places pairs)) = 0
 edge_count (Ok (Edge c left right)) = 1
 
 abbrev pub edges_in : List (List ℕ) → ℕ
-edges_in [] = 0
-edges_in (line ∷ more) = edge_count (says line) + edges_in more
+edges_in ls = sum_by (λ line. edge_count (says line)) ls
 
 -- v is the number of one of n places that are numbered on from `before`
 abbrev pub NumbersPlace : ℕ → ℕ → ℕ → Type 0

@@ -60,15 +60,16 @@ header_line c (word d bs more) = cond (bytes_eq bs (codes "edge")) (then (two_nu
 abbrev pub edge_line : ℕ → Words → OfLine Said
 edge_line c w = then (two_numbers w) (λ n. Ok (Edge c n.0 n.1))
 
--- a word of one byte, by that byte; any other word by 0
-abbrev pub letter : List ℕ → ℕ
-letter [] = 0
-letter (b ∷ []) = b
-letter (b ∷ c ∷ bs) = 0
+-- a word of one byte, by that byte; none for any other word
+abbrev pub letter : List ℕ → Option ℕ
+letter [] = None
+letter (b ∷ []) = Some b
+letter (b ∷ c ∷ bs) = None
 
 -- a line by its first word: `c` (99) begins a comment, `p` (112) the header, `e` (101) an edge
-abbrev pub said_by : ℕ → ℕ → Words → OfLine Said
-said_by b c more = cond (b == 99) (Ok Nothing) (cond (b == 112) (header_line c more) (cond (b == 101) (edge_line c more) (misfit c)))
+abbrev pub said_by : Option ℕ → ℕ → Words → OfLine Said
+said_by None c more = misfit c
+said_by (Some b) c more = cond (b == 99) (Ok Nothing) (cond (b == 112) (header_line c more) (cond (b == 101) (edge_line c more) (misfit c)))
 
 -- what a line says: nothing, where it is blank or a comment; a header; an edge
 abbrev pub said : Words → OfLine Said

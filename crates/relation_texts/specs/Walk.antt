@@ -34,12 +34,19 @@ is_place before n v = nat_lt before v && nat_le v (before + n)
 abbrev pub place_of : ℕ → ℕ → ℕ
 place_of before v = v - before - 1
 
+-- what the lines have said, with a header in the line with the number n; with an edge between the places p and q
+abbrev pub with_header : ℕ → Count → SoFar → SoFar
+with_header n pairs s = record { announced = Some (record { pairs = pairs; line = n }); edges = s.edges; pairs = s.pairs }
+
+abbrev pub with_edge : ℕ → ℕ → SoFar → SoFar
+with_edge p q s = record { announced = s.announced; edges = s.edges + 1; pairs = with_pair s.pairs p q true }
+
 -- a header in the line with the number n, `p` at column c, after the lines before it
 abbrev pub headed : ℕ → ℕ → ℕ → SoFar → ℕ → Count → Count → OfLine SoFar
 headed L R n s c places pairs =
     rule (not (is_some s.announced)) HeaderAgain c
     (rule (places.value == L + R) (Number Mismatch) places.column
-    (Ok (record { announced = Some (record { pairs = pairs; line = n }); edges = s.edges; pairs = s.pairs })))
+    (Ok (with_header n pairs s)))
 
 -- an edge, `e` at column c, after the lines before it
 abbrev pub edged : ℕ → ℕ → SoFar → ℕ → Count → Count → OfLine SoFar
@@ -48,7 +55,7 @@ edged L R s c left right =
     (rule (is_place 0 L left.value) (Number Mismatch) left.column
     (rule (is_place L R right.value) (Number Mismatch) right.column
     (rule (not (s.pairs (place_of 0 left.value) (place_of L right.value))) PairAgain c
-    (Ok (record { announced = s.announced; edges = s.edges + 1; pairs = with_pair s.pairs (place_of 0 left.value) (place_of L right.value) true })))))
+    (Ok (with_edge (place_of 0 left.value) (place_of L right.value) s)))))
 
 -- the line with the number n, by what it says, after the lines before it
 abbrev pub taken : ℕ → ℕ → ℕ → SoFar → Said → OfLine SoFar

@@ -1,22 +1,22 @@
 //! The forms of the lines of a relation text.
-ghost use Rattle.std.specs.Prelude.{◌≡◌, Ok, Err};
+ghost use Rattle.std.specs.Prelude.{◌≡◌, Some, Ok, Err};
 ghost use Rattle.lines.specs.Cursors.{words_left};
 ghost use Rattle.numerals.specs.Numerals.{numeral};
-ghost use Rattle.relation_texts.specs.Forms.{edge_line, header_line, letter, no_form, number_first, plain, said, said_by, two_numbers};
+ghost use Rattle.relation_texts.specs.Forms.{edge_line, header_line, no_form, number_first, plain, said, said_by, two_numbers};
 
 use faults::{Flaw, LineFault};
 use lines::WordCursor;
 use numerals::read_numeral;
 
 /// A number of a line, with its column.
-#[derive(Clone, Copy)]
+#[derive(Clone, Copy, Debug, PartialEq, Eq)]
 pub(crate) struct Count {
     pub(crate) column: usize,
     pub(crate) value: u32,
 }
 
 /// What a line says that fits a form.
-#[derive(Clone, Copy)]
+#[derive(Clone, Copy, Debug, PartialEq, Eq)]
 pub(crate) enum Said {
     /// The line is blank or a comment.
     Nothing,
@@ -48,31 +48,25 @@ fn misfit(column: usize) -> Flaw<LineFault>
 fn plain_number(word: &[u8]) -> Option<u32>
     ensures { result ≡ plain (numeral word.now) }
 {
-    let n = read_numeral(word)?;
-    if n.padded { None } else { Some(n.value) }
+    read_numeral(word).filter(|n| !n.padded).map(|n| n.value)
 }
 
 /// The next word, which has to be a number.
 fn next_number(words: &mut WordCursor) -> Result<Count, Flaw<LineFault>>
     ensures { elim result [ Ok n ↦ number_first (words_left words.old) ≡ Ok (n, words_left words.new) | Err f ↦ number_first (words_left words.old) ≡ Err f ] }
 {
-    let Some(word) = words.next() else {
-        return Err(misfit(words.column()));
-    };
-    match plain_number(word.bytes) {
-        Some(value) => Ok(Count {
-            column: word.column,
-            value,
-        }),
-        None => Err(misfit(word.column)),
-    }
+    let word = words.next().ok_or(misfit(words.column()))?;
+    let value = plain_number(word.bytes).ok_or(misfit(word.column))?;
+    Ok(Count {
+        column: word.column,
+        value,
+    })
 }
 
 /// Two numbers, and nothing behind them.
-fn two_numbers(words: WordCursor) -> Result<(Count, Count), Flaw<LineFault>>
+fn two_numbers(mut words: WordCursor) -> Result<(Count, Count), Flaw<LineFault>>
     ensures { result ≡ two_numbers (words_left words.entry) }
 {
-    let mut words = words;
     let first = next_number(&mut words)?;
     let second = next_number(&mut words)?;
     match words.next() {
@@ -82,13 +76,10 @@ fn two_numbers(words: WordCursor) -> Result<(Count, Count), Flaw<LineFault>>
 }
 
 /// What stands behind the `p` at a column: `edge`, and two numbers.
-fn header(column: usize, words: WordCursor) -> Result<Said, Flaw<LineFault>>
+fn header(column: usize, mut words: WordCursor) -> Result<Said, Flaw<LineFault>>
     ensures { result ≡ header_line column (words_left words.entry) }
 {
-    let mut words = words;
-    let Some(word) = words.next() else {
-        return Err(misfit(words.column()));
-    };
+    let word = words.next().ok_or(misfit(words.column()))?;
     if !word.is(b"edge") {
         return Err(misfit(word.column));
     }
@@ -112,18 +103,11 @@ fn edge(column: usize, words: WordCursor) -> Result<Said, Flaw<LineFault>>
     })
 }
 
-/// The byte of a word of one byte, and 0 for any other word.
-fn letter(word: &[u8]) -> u8
-    ensures { result ≡ letter word.now }
+/// What a line says whose first word is at a column and is this character alone.
+fn said_by(first: char, column: usize, words: WordCursor) -> Result<Said, Flaw<LineFault>>
+    ensures { result ≡ said_by (Some first) column (words_left words.entry) }
 {
-    if word.len() == 1 { word[0] } else { 0 }
-}
-
-/// What a line says whose first word is at a column and has this byte alone.
-fn said_by(first: u8, column: usize, words: WordCursor) -> Result<Said, Flaw<LineFault>>
-    ensures { result ≡ said_by first column (words_left words.entry) }
-{
-    match first as char {
+    match first {
         'c' => Ok(Said::Nothing),
         'p' => header(column, words),
         'e' => edge(column, words),
@@ -132,12 +116,14 @@ fn said_by(first: u8, column: usize, words: WordCursor) -> Result<Said, Flaw<Lin
 }
 
 /// What a line says.
-pub(crate) fn what_is_said(words: WordCursor) -> Result<Said, Flaw<LineFault>>
+pub(crate) fn what_is_said(mut words: WordCursor) -> Result<Said, Flaw<LineFault>>
     ensures { result ≡ said (words_left words.entry) }
 {
-    let mut words = words;
     let Some(word) = words.next() else {
         return Ok(Said::Nothing);
     };
-    said_by(letter(word.bytes), word.column, words)
+    match word.bytes {
+        [first] => said_by(char::from(*first), word.column, words),
+        _ => Err(misfit(word.column)),
+    }
 }

@@ -6,45 +6,29 @@ ghost use Rattle.std.specs.Prelude.{◌≡◌};
 ghost use Rattle.relation_texts.specs.Exactly.{FaultsExactly, ReadOrFault, RelationExactly};
 ghost use Rattle.relation_texts.specs.Misfits.{MisfitsExactly};
 ghost use Rattle.relation_texts.specs.Outcomes.{outcome_of};
-ghost use Rattle.relation_texts.specs.Readings.{ended_by, so_far};
-ghost use Rattle.relation_texts.specs.Walk.{nothing_yet, relation_text};
+ghost use Rattle.relation_texts.specs.Walk.{relation_text};
 ghost use Rattle.relation_texts.specs.Written.{FormsExactly};
 
 use faults::{Cause, TextFault};
-use reading::Reading;
+use places::Relation;
 
 mod forms;
-mod outcome;
 mod reading;
 mod text;
 
-pub use outcome::Outcome;
-
-/// What a relation text says between a left net and a right net of so many places (more than 16 count as 16).
-pub fn read_relation<'a>(text: &'a [u8], left_places: u8, right_places: u8) -> Outcome<'a>
-    ensures { outcome_of result ≡ relation_text text.now left_places right_places }
-{
-    let mut reading = Reading::new();
-    match read_text(&mut reading, text, left_places, right_places) {
-        Ok(()) => Outcome::read(reading.pairs()),
-        Err(fault) => Outcome::refused(fault),
-    }
-}
-
-/// Reads a whole text.
-fn read_text<'a>(
-    reading: &mut Reading,
+/// What a relation text says between a left net and a right net of so many places (more than 16 count as 16): the
+/// relation, or the fault.
+pub fn read_relation<'a>(
     text: &'a [u8],
     left_places: u8,
     right_places: u8,
-) -> Result<(), TextFault<'a>>
-    requires { so_far reading.old ≡ nothing_yet }
-    ensures { ended_by result reading.new ≡ relation_text text.now left_places right_places }
+) -> Result<Relation, TextFault<'a>>
+    ensures { outcome_of result ≡ relation_text text.now left_places right_places }
 {
     if text.len() > 4096 {
         return Err(TextFault::new(Cause::RelationTooLong, text, 0, 0));
     }
-    text::read_lines(reading, text, left_places.min(16), right_places.min(16))
+    text::read_lines(text, left_places.min(16), right_places.min(16))
 }
 
 /// A fault is reported exactly when it is its line's first, by the numbers of the faults, and no earlier line has one;

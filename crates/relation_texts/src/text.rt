@@ -1,30 +1,24 @@
 //! The lines of a relation text.
-ghost use Rattle.std.specs.Prelude.{◌≡◌, ◌≤◌, length};
+ghost use Rattle.std.specs.Prelude.{◌≡◌};
 ghost use Rattle.lines.specs.Lines.{lines};
-ghost use Rattle.relation_texts.specs.Readings.{ended_by, so_far};
-ghost use Rattle.relation_texts.specs.Walk.{walk};
+ghost use Rattle.relation_texts.specs.Outcomes.{outcome_of};
+ghost use Rattle.relation_texts.specs.Walk.{nothing_yet, walk};
 
 use crate::reading::Reading;
 use faults::TextFault;
 use lines::LineCursor;
+use places::Relation;
 
-/// Takes the lines of a text, from its first, between nets of so many places.
-pub(crate) fn read_lines<'a>(
-    reading: &mut Reading,
-    text: &'a [u8],
-    left: u8,
-    right: u8,
-) -> Result<(), TextFault<'a>>
-    requires { (length text.now ≤ 4096) × (reading.old.edges ≡ 0) }
-    ensures { ended_by result reading.new ≡ walk text.now left right 1 (so_far reading.old) (lines text.now) }
+/// The relation that a text says between a left net and a right net of so many places, or its fault: line by line from
+/// the first.
+pub(crate) fn read_lines(text: &[u8], left: u8, right: u8) -> Result<Relation, TextFault<'_>>
+    ensures { outcome_of result ≡ walk text.now left right 1 nothing_yet (lines text.now) }
 {
-    let mut cursor = LineCursor::of(text);
-    let mut number = 1;
-    while let Some(line) = cursor.next() {
-        if let Err(flaw) = reading.take_line(line, number, left, right) {
-            return Err(TextFault::in_line(flaw, text, number));
-        }
-        number += 1;
+    let mut reading = Reading::between(left, right);
+    for (number, line) in (1..).zip(LineCursor::of(text)) {
+        reading
+            .take_line(line, number)
+            .map_err(|flaw| TextFault::in_line(flaw, text, number))?;
     }
-    reading.finish(text, number)
+    reading.finish(text)
 }

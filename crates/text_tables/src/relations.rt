@@ -13,7 +13,7 @@ fn fault_between(
     wanted: (u8, usize, usize),
     token: &[u8],
 ) -> Result<(), Fail> {
-    let Some(fault) = read_relation(text, left, right).fault() else {
+    let Err(fault) = read_relation(text, left, right) else {
         return Err(Fail::new("a relation was read"));
     };
     assert_eq!(rt; fault.number(), wanted.0);
@@ -32,17 +32,11 @@ fn fault(
     fault_between(rt, text, 2, 3, wanted, token)
 }
 
-/// How many pairs a relation has.
-fn size(relation: &Relation) -> u32 {
-    let mut pairs = 0u32;
-    for p in 0..16u8 {
-        for q in 0..16u8 {
-            if relation.contains(p, q) {
-                pairs = pairs.wrapping_add(1);
-            }
-        }
-    }
-    pairs
+/// How many pairs a relation has. The numbers below 256 are those of the pairs, 16 of them for each left place.
+fn size(relation: &Relation) -> usize {
+    (0..256u16)
+        .filter(|n| relation.contains((n / 16) as u8, (n % 16) as u8))
+        .count()
 }
 
 /// The text has no fault, and its relation has so many pairs, this one among them.
@@ -51,10 +45,10 @@ fn read_between(
     text: &[u8],
     left: u8,
     right: u8,
-    pairs: u32,
+    pairs: usize,
     pair: (u8, u8),
 ) -> Result<(), Fail> {
-    let Some(relation) = read_relation(text, left, right).relation() else {
+    let Ok(relation) = read_relation(text, left, right) else {
         return Err(Fail::new("a fault was reported"));
     };
     assert_eq!(rt; size(&relation), pairs);

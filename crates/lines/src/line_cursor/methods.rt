@@ -1,5 +1,5 @@
-ghost use Rattle.std.specs.Prelude.{◌≡◌, ◌<◌, ◌≤◌, length, MatchOption};
-ghost use Rattle.lines.specs.Cursors.{line_room, line_then, lines_left};
+ghost use Rattle.std.specs.Prelude.{◌≡◌, length};
+ghost use Rattle.lines.specs.Cursors.{line_room, lines_left};
 ghost use Rattle.lines.specs.Lines.{lines};
 
 use super::*;
@@ -13,14 +13,22 @@ impl<'a> LineCursor<'a> {
     {
         LineCursor { rest: text }
     }
+}
+
+impl<'a> Iterator for LineCursor<'a> {
+    ghost use Rattle.std.specs.Iterator.{at_most};
+    ghost use Rattle.lines.specs.Cursors.{GivesLine, line_room};
+
+    type Item = &'a [u8];
+
+    ghost next_gives = { GivesLine };
+
+    ghost remaining = { λ c. at_most (line_room c) };
 
     /// The next line, without the LF that ends it; none behind the last.
-    pub fn next(&mut self) -> Option<&'a [u8]>
-        ensures steps { lines_left self.old ≡ line_then result self.new }
-        ensures shorter { MatchOption result (line_room self.new ≡ 0) (λ line. (line_room self.new < line_room self.old) × (length line.now ≤ line_room self.old)) }
-    {
-        let (line, rest) = cut_line(self.rest);
+    fn next(&mut self) -> Option<&'a [u8]> {
+        let (line, rest) = cut_line(self.rest)?;
         self.rest = rest;
-        line
+        Some(line)
     }
 }

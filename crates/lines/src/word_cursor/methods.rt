@@ -1,10 +1,9 @@
-ghost use Rattle.std.specs.Prelude.{◌≡◌, ◌<◌, length, MatchOption};
-ghost use Rattle.lines.specs.Cursors.{column_of, word_room, word_then, words_left};
+ghost use Rattle.std.specs.Prelude.{◌≡◌, length};
+ghost use Rattle.lines.specs.Cursors.{column_of, word_room, words_left};
 ghost use Rattle.lines.specs.Words.{words};
 ghost use Rattle.std.specs.Str.{bytes_eq};
 
 use super::*;
-use crate::bytes::same;
 use crate::cuts::cut_word;
 
 impl<'a> Word<'a> {
@@ -12,7 +11,7 @@ impl<'a> Word<'a> {
     pub fn is(&self, text: &[u8]) -> bool
         ensures { result ≡ bytes_eq self.now.bytes.now text.now }
     {
-        same(self.bytes, text)
+        self.bytes == text
     }
 }
 
@@ -28,20 +27,28 @@ impl<'a> WordCursor<'a> {
         }
     }
 
-    /// The next word. Behind the last there is none, and the cursor stands one past the line's last byte.
-    pub fn next(&mut self) -> Option<Word<'a>>
-        ensures steps { words_left self.old ≡ word_then result self.new }
-        ensures shorter { MatchOption result (word_room self.new ≡ 0) (λ _. word_room self.new < word_room self.old) }
-    {
-        let (word, column, rest) = cut_word(self.column, self.rest);
-        *self = WordCursor { column, rest };
-        word
-    }
-
     /// The column at which the cursor stands.
     pub fn column(&self) -> usize
         ensures { result ≡ column_of self.now }
     {
         self.column
+    }
+}
+
+impl<'a> Iterator for WordCursor<'a> {
+    ghost use Rattle.std.specs.Iterator.{at_most};
+    ghost use Rattle.lines.specs.Cursors.{GivesWord, word_room};
+
+    type Item = Word<'a>;
+
+    ghost next_gives = { GivesWord };
+
+    ghost remaining = { λ c. at_most (word_room c) };
+
+    /// The next word. Behind the last there is none, and the cursor stands one past the line's last byte.
+    fn next(&mut self) -> Option<Word<'a>> {
+        let (word, behind) = cut_word(*self);
+        *self = behind;
+        word
     }
 }

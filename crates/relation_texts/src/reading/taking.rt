@@ -1,15 +1,17 @@
 //! A line, taken after the lines before it.
-ghost use Rattle.std.specs.Prelude.{◌≡◌, ◌+◌, ◌≤◌, ◌==◌, if◌then◌else◌, Ok, Err};
+ghost use Rattle.std.specs.Prelude.{◌≡◌, ℕ, ◌+◌, ◌<◌, ◌≤◌, ◌==◌, if◌then◌else◌, length, Ok, Err};
 ghost use Rattle.faults.specs.declared.causes.NumberFault.TheVariants.{Mismatch};
-ghost use Rattle.places.specs.Meanings.{relation_of};
+ghost use Rattle.lines.specs.Lines.{lines};
 ghost use Rattle.relation_texts.specs.Forms.{says, then};
-ghost use Rattle.relation_texts.specs.Readings.{ended_by, left_by, so_far};
-ghost use Rattle.relation_texts.specs.Walk.{edged, finished, headed, is_place, nothing_yet, place_of, taken};
+ghost use Rattle.relation_texts.specs.declared.forms.Count.{Count};
+ghost use Rattle.relation_texts.specs.Outcomes.{outcome_of};
+ghost use Rattle.relation_texts.specs.Readings.{left_by, so_far};
+ghost use Rattle.relation_texts.specs.Walk.{edged, finished, headed, is_place, nothing_yet, place_of, taken, with_edge, with_header};
 
 use super::*;
 use crate::forms::{Said, what_is_said};
 use faults::{Flaw, LineFault, NumberFault, TextFault};
-use lines::WordCursor;
+use lines::{LineCursor, WordCursor};
 
 /// The flaw of a number that is not the right one.
 fn mismatch(count: Count) -> Flaw<NumberFault>
@@ -25,8 +27,8 @@ fn mismatch(count: Count) -> Flaw<NumberFault>
 fn place(count: Count, before: u8, places: u8) -> Result<u8, Flaw<NumberFault>>
     ensures { result ≡ (if is_place before places count.value then Ok (place_of before count.value) else Err (record { cause = Mismatch; column = count.column })) }
 {
-    let before = before as u32;
-    let last = before + places as u32;
+    let before = u32::from(before);
+    let last = before + u32::from(places);
     if count.value > before && count.value <= last {
         Ok((count.value - before - 1) as u8)
     } else {
@@ -34,40 +36,43 @@ fn place(count: Count, before: u8, places: u8) -> Result<u8, Flaw<NumberFault>>
     }
 }
 
-/// The number of places of both nets.
-fn check_places(count: Count, left: u8, right: u8) -> Result<(), Flaw<NumberFault>>
-    ensures { result ≡ (if count.value == left + right then Ok tt else Err (record { cause = Mismatch; column = count.column })) }
+/// The number of the line behind the last.
+fn line_behind(text: &[u8]) -> usize
+    ensures { result ≡ length (lines text.now) + 1 }
 {
-    if count.value == left as u32 + right as u32 {
-        Ok(())
-    } else {
-        Err(mismatch(count))
-    }
+    LineCursor::of(text).count() + 1
 }
 
 impl Reading {
-    /// Before the first line.
-    pub(crate) fn new() -> Reading
-        ensures { so_far result ≡ nothing_yet }
+    /// Before the first line of a text between a left net and a right net of so many places.
+    pub(crate) fn between(left: u8, right: u8) -> Reading
+        ensures nothing { so_far result ≡ nothing_yet }
+        ensures left { result.left ≡ left }
+        ensures right { result.right ≡ right }
     {
         Reading {
+            left,
+            right,
             announced: None,
             edges: 0,
             pairs: Relation::new(),
         }
     }
 
-    /// Takes a header, in the line with a number.
-    fn take_header(
-        &mut self,
-        column: usize,
-        places: Count,
-        announced: Announced,
-        left: u8,
-        right: u8,
-    ) -> Result<(), Flaw<LineFault>>
-        ensures value { left_by result self.new ≡ headed left right announced.line (so_far self.old) column places announced.pairs }
-        ensures edges { self.new.edges ≡ self.old.edges }
+    /// Whether this is the number of places of both nets.
+    fn check_places(&self, count: Count) -> Result<(), Flaw<NumberFault>>
+        ensures { result ≡ (if count.value == self.now.left + self.now.right then Ok tt else Err (record { cause = Mismatch; column = count.column })) }
+    {
+        if count.value == u32::from(self.left) + u32::from(self.right) {
+            Ok(())
+        } else {
+            Err(mismatch(count))
+        }
+    }
+
+    /// Whether a header may come here, with its `p` at a column and such a number of places.
+    fn check_header(&self, column: usize, places: Count) -> Result<(), Flaw<LineFault>>
+        ensures { (n : ℕ) (pairs : Count) → headed self.now.left self.now.right n (so_far self.now) column places pairs ≡ (then) result (λ _. Ok (with_header n pairs (so_far self.now))) }
     {
         if self.announced.is_some() {
             return Err(Flaw {
@@ -75,22 +80,17 @@ impl Reading {
                 column,
             });
         }
-        check_places(places, left, right)?;
-        self.announced = Some(announced);
-        Ok(())
+        Ok(self.check_places(places)?)
     }
 
-    /// Takes an edge, in the line with a number.
-    fn take_edge(
-        &mut self,
+    /// The places of an edge whose `e` stands at a column, a pair that no line before has said.
+    fn new_pair(
+        &self,
         column: usize,
-        edge: (Count, Count),
-        left: u8,
-        right: u8,
-    ) -> Result<(), Flaw<LineFault>>
-        requires { self.old.edges ≤ 4096 }
-        ensures value { left_by result self.new ≡ edged left right (so_far self.old) column edge.0 edge.1 }
-        ensures edges { self.new.edges ≤ self.old.edges + 1 }
+        left: Count,
+        right: Count,
+    ) -> Result<(u8, u8), Flaw<LineFault>>
+        ensures { edged self.now.left self.now.right (so_far self.now) column left right ≡ (then) result (λ pair. Ok (with_edge pair.0 pair.1 (so_far self.now))) }
     {
         if self.announced.is_none() {
             return Err(Flaw {
@@ -98,76 +98,65 @@ impl Reading {
                 column,
             });
         }
-        let p = place(edge.0, 0, left)?;
-        let q = place(edge.1, left, right)?;
+        let p = place(left, 0, self.left)?;
+        let q = place(right, self.left, self.right)?;
         if self.pairs.contains(p, q) {
             return Err(Flaw {
                 cause: LineFault::PairAgain,
                 column,
             });
         }
-        self.pairs.insert(p, q);
-        self.edges += 1;
-        Ok(())
+        Ok((p, q))
     }
 
-    /// Takes the line with a number, between nets of so many places.
-    pub(crate) fn take_line(
-        &mut self,
-        line: &[u8],
-        number: usize,
-        left: u8,
-        right: u8,
-    ) -> Result<(), Flaw<LineFault>>
-        requires { self.old.edges ≤ 4096 }
-        ensures value { left_by result self.new ≡ (then) (says line.now) (taken left right number (so_far self.old)) }
+    /// Takes the line with a number, before which there were fewer edges.
+    pub(crate) fn take_line(&mut self, line: &[u8], number: usize) -> Result<(), Flaw<LineFault>>
+        requires { self.old.edges < number }
+        ensures value { left_by result self.new ≡ (then) (says line.now) (taken self.old.left self.old.right number (so_far self.old)) }
         ensures edges { self.new.edges ≤ self.old.edges + 1 }
+        ensures left { self.new.left ≡ self.old.left }
+        ensures right { self.new.right ≡ self.old.right }
     {
         match what_is_said(WordCursor::of(line))? {
-            Said::Nothing => Ok(()),
+            Said::Nothing => {}
             Said::Header {
                 column,
                 places,
                 pairs,
-            } => self.take_header(
-                column,
-                places,
-                Announced {
+            } => {
+                self.check_header(column, places)?;
+                self.announced = Some(Announced {
                     pairs,
                     line: number,
-                },
-                left,
-                right,
-            ),
+                });
+            }
             Said::Edge {
                 column,
-                left: w,
-                right: v,
-            } => self.take_edge(column, (w, v), left, right),
+                left,
+                right,
+            } => {
+                let (p, q) = self.new_pair(column, left, right)?;
+                self.pairs.insert(p, q);
+                self.edges += 1;
+            }
         }
+        Ok(())
     }
 
-    /// The rules that are looked at behind the last line; the line behind it would have the number `next`.
-    pub(crate) fn finish<'a>(&self, text: &'a [u8], next: usize) -> Result<(), TextFault<'a>>
-        ensures { ended_by result self.now ≡ finished text.now next (so_far self.now) }
+    /// What the text says, by the rules that are looked at behind its last line.
+    pub(crate) fn finish<'a>(&self, text: &'a [u8]) -> Result<Relation, TextFault<'a>>
+        ensures { outcome_of result ≡ finished text.now (length (lines text.now) + 1) (so_far self.now) }
     {
         let Some(announced) = self.announced else {
             let missing = Flaw {
                 cause: LineFault::HeaderMissing,
                 column: 1,
             };
-            return Err(TextFault::in_line(missing, text, next));
+            return Err(TextFault::in_line(missing, text, line_behind(text)));
         };
         if announced.pairs.value as usize != self.edges {
             return Err(TextFault::in_line(mismatch(announced.pairs).into(), text, announced.line));
         }
-        Ok(())
-    }
-
-    /// The pairs of the edges.
-    pub(crate) fn pairs(&self) -> Relation
-        ensures { relation_of result ≡ (so_far self.now).pairs }
-    {
-        self.pairs
+        Ok(self.pairs)
     }
 }

@@ -1,12 +1,12 @@
-use Rattle.std.proofs.Common.{rules}
-use Rattle.lines.proofs.Steps.{leads_more, leads_here, leads_none}
+use Rattle.std.proofs.Common.{◌∙◌, rules, tests}
+use Rattle.std.proofs.lemmas.Iterator.{YieldsList-from_slice}
+use Rattle.std.proofs.lemmas.Iterator.Consumers.{YieldsList-at, count_from_yields_List}
+use Rattle.std.proofs.lemmas.Iterator.Search.{YieldsList-from_take_while}
+use Rattle.std.proofs.lemmas.List.Folds.{length-prefix_len}
 use Rattle.lines.proofs.bytes.leading.Goals as goal
 
-pub loop-i-preserved : goal.loop-i-preserved
-loop-i-preserved c = search (rules, leads_more)
-
-pub returns-then-x-b : goal.returns-then-x-b
-returns-then-x-b c = search (rules, leads_here)
-
-pub returns : goal.returns
-returns c = search (rules, leads_none)
+pub returns-clause-value : goal.returns-clause-value
+returns-clause-value g c = λ p h.
+    count_from_yields_List c.take_while.result _ c.count.ensures.ran
+    (YieldsList-from_take_while _ p (YieldsList-at c.take_while.ensures.source (YieldsList-from_slice c.args.bytes.now cc)) c.take_while.ensures.closure (search rules) (λ x b q k. search (rules, tests)))
+    ∙ length-prefix_len p c.args.bytes.now
