@@ -11,6 +11,7 @@ ghost use Rattle.charts.specs.contracts.row.ChartRow.{the_row as row-row};
 
 use super::*;
 use crate::ChartRefusal;
+use crate::row::ChartRow;
 use names::Name;
 
 impl Chart {
@@ -20,11 +21,8 @@ impl Chart {
     {
         Chart {
             places: PlaceTable::new(),
-            transitions: NameTable::new(),
-            labels: [0; 32],
-            rows: RowTable::of(ChartRow::new()),
+            transitions: TransitionTable::new(),
             opened: None,
-            lends: [],
         }
     }
 
@@ -44,14 +42,14 @@ impl Chart {
         ensures result { result ≡ opened_as (chart_view self.old) (number_of name) }
         ensures after { chart_view self.new ≡ unless_refused result (chart_view self.old) (with_open (chart_view self.old) (number_of name) (number_of label)) }
     {
-        if self.is_closed(name) {
+        if self.transitions.has(name) {
             return Err(ChartRefusal::DeclaredAgain);
         }
-        let t = self.closed_count();
+        let t = self.transitions.len();
         if t > 31 {
             return Err(ChartRefusal::TooManyTransitions);
         }
-        self.start(Heading { name, label });
+        self.start(name, label);
         Ok(t)
     }
 
@@ -71,5 +69,13 @@ impl Chart {
         let t = self.check_open()?;
         self.finish();
         Ok(t)
+    }
+}
+
+impl Default for Chart {
+    ghost is_default = { λ c. chart_view c ≡ empty_view };
+
+    fn default() -> Self {
+        Chart::new()
     }
 }
