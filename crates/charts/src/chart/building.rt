@@ -58,7 +58,7 @@ impl Chart {
         ensures* follows { sem 𝓛 (follows_so chart-row row-row self.entry.ghost_name (name_of result) (λ w n. (is_some result ≡ true → chart_view n ≡ with_row (chart_view self.old) (row_view w))) (λ n. n ≡ self.old)) }
         ensures value { option_map (λ x. row_view x.now) result ≡ option_map (λ (e : TransitionEntry). e.row) (chart_view self.old).opened }
     {
-        self.lend_last()
+        self.lend_opened()
     }
 
     /// Closes the open transition and gives its number; or says why not.

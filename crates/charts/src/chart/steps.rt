@@ -56,7 +56,7 @@ impl Chart {
     }
 
     /// Lends the row of the open transition, where one is open.
-    pub(super) fn lend_last(&mut self) -> Option<&mut ChartRow>
+    pub(super) fn lend_opened(&mut self) -> Option<&mut ChartRow>
         ensures* follows { sem 𝓛 (follows_so chart-row row-row self.entry.ghost_name (name_of result) (λ w n. (is_some result ≡ true → chart_view n ≡ with_row (chart_view self.old) (row_view w))) (λ n. n ≡ self.old)) }
         ensures value { option_map (λ x. row_view x.now) result ≡ option_map (λ (e : TransitionEntry). e.row) (chart_view self.old).opened }
     {
