@@ -10,12 +10,7 @@ ghost use Rattle.arc_lists.specs.Lists.{arc_passes, arcs_pass, in_range, limits_
 use crate::arc::Arc;
 use crate::kind::Kind;
 use crate::link::Link;
-use nets::Role;
-
-/// The least and the greatest sum of the weights of a role.
-const LEAST_SUM: u8 = 1;
-
-const MOST_SUM: u8 = 4;
+use nets::{LEAST_SUM, MOST_SUM, Role};
 
 /// Whether an arc weighs a link.
 fn is_of(a: &Arc, link: Link) -> bool

@@ -1,23 +1,24 @@
--- The steps of tables of names.
-use Rattle.std.proofs.Common.{◌≡◌, ℕ, ◌+◌, ◌<◌, ◌≤◌, true, false, cond, not, eqb, List, [], ◌∷◌, ◌++◌, length, get_or, drop, Some, None, Option, sym, refl, ap, ◌∙◌, inl, inr, arith, MatchOption}
-use Rattle.std.proofs.lemmas.List.{at_drop_more, at_drop_all, length_push, get_or_push, get_or_append_left}
+-- The steps of lists of names.
+use Rattle.std.proofs.Common.{◌≡◌, ℕ, ◌+◌, ◌<◌, true, false, cond, not, ◌||◌, eqb, List, [], ◌∷◌, ◌++◌, map, length, get_or, Some, None, Option, sym, refl, ap, ◌∙◌, subst, inl, inr, arith, MatchOption}
+use Rattle.std.proofs.lemmas.List.{length_push, length-map, map-append, get_or_push, get_or-map, get_or_append_left}
+use Rattle.std.proofs.lemmas.Option.{slice_get-get_or}
+use Rattle.std.specs.List.{slice_get}
 use Rattle.std.proofs.lemmas.Bool.{cases_lt, eq-eqb, ne_eqb, and_parts, and_from, or_parts, or_from, not-true, not_from_false}
 use Rattle.std.specs.Option.{option_map}
 use Rattle.names.specs.Names.{IsName}
 use Rattle.names.specs.Numbers.{is_packed}
+use Rattle.names.specs.Laws.{packed_name}
 use Rattle.names.specs.Meanings.{number_of}
 use Rattle.names.specs.declared.name.Name.{Name}
-use Rattle.charts.specs.Naming.{position_from, has_name, AllNames, distinct}
+use Rattle.std.specs.List.{position_from}
+use Rattle.std.proofs.lemmas.List.Folds.{list_any-append}
+use Rattle.charts.specs.TableLaws.{column}
+use Rattle.charts.specs.Naming.{position, has_name, AllNames, distinct}
 
-module _ (x : ℕ) (xs : List ℕ) (i : ℕ) where
-  pub position_more : i < length xs → (get_or xs i 0 ≡ x → ⊥) → position_from i x (drop i xs) ≡ position_from (i + 1) x (drop (i + 1) xs)
-  position_more l n = at_drop_more (position_from i x) xs i 0 l ∙ ap (λ b. cond b (Some i) (position_from (i + 1) x (drop (i + 1) xs))) (ne_eqb _ _ n)
-
-  pub position_here : i < length xs → get_or xs i 0 ≡ x → position_from i x (drop i xs) ≡ Some i
-  position_here l e = at_drop_more (position_from i x) xs i 0 l ∙ ap (λ b. cond b (Some i) (position_from (i + 1) x (drop (i + 1) xs))) (eq-eqb _ _ e)
-
-  pub position_none : length xs ≤ i → position_from i x (drop i xs) ≡ None
-  position_none l = at_drop_all (position_from i x) xs i l
+-- the first that passes in a list of values
+pub first_map : {X : Type 0} (h : X → ℕ) (n i : ℕ) (xs : List X) → position_from (λ x. eqb (h x) n) i xs ≡ position_from (λ y. eqb y n) i (map h xs)
+first_map h n i [] = refl
+first_map h n i (x ∷ xs) = ap (λ o. cond (eqb (h x) n) (Some i) o) (first_map h n (i + 1) xs)
 
 -- what is read as a name that stands there
 pub name_read : (r : Option Name) (n : ℕ) → MatchOption r (IsName n → ⊥) (λ m. IsName n × (number_of m ≡ n)) → IsName n → option_map number_of r ≡ Some n
@@ -25,8 +26,7 @@ name_read None n h i = absurd (h i)
 name_read (Some m) n h i = ap Some h.1
 
 has_push : (x y : ℕ) (xs : List ℕ) → has_name x xs ≡ false → (y ≡ x → ⊥) → has_name x (xs ++ y ∷ []) ≡ false
-has_push x y [] h n = or_from (eqb y x) false (ne_eqb y x n) refl
-has_push x y (z ∷ zs) h n = let p = or_parts (eqb z x) (has_name x zs) h in or_from (eqb z x) (has_name x (zs ++ y ∷ [])) p.0 (has_push x y zs p.1 n)
+has_push x y xs h n = list_any-append (λ z. eqb z x) xs (y ∷ []) ∙ or_from (has_name x xs) (eqb y x || false) h (or_from (eqb y x) false (ne_eqb y x n) refl)
 
 -- one name more
 pub distinct_push : (xs : List ℕ) (y : ℕ) → distinct xs ≡ true → has_name y xs ≡ false → distinct (xs ++ y ∷ []) ≡ true
@@ -49,3 +49,26 @@ names_push xs y h e i l = elim (cases_lt i (length xs)) [
       let last : length xs ≡ i = omega (arith, length_push xs y) in
       ap is_packed (get_or_push xs y 0 i last) ∙ e
 ]
+
+-- what is found in a list of values
+pub first_named : {X : Type 0} (h : X → ℕ) (xs : List X) (n m : ℕ) (r : Option ℕ) → r ≡ position_from (λ x. eqb (h x) n) 0 xs → n ≡ m → r ≡ position m (map h xs)
+first_named h xs n m r f e = f ∙ first_map h n 0 xs ∙ ap (λ k. position k (map h xs)) e
+
+-- what is read as the name at i of a list of numbers that were read off some entries
+pub name_at : {X : Type 0} (h : X → ℕ) (xs : List X) (ns : List ℕ) (i : ℕ) (x : X) (r : Option Name) → map h xs ≡ ns → i < length xs → x ≡ get_or xs i x → AllNames ns → MatchOption r (IsName (h x) → ⊥) (λ m. IsName (h x) × (number_of m ≡ h x)) → option_map number_of r ≡ slice_get ns i
+name_at h xs ns i x r e l at names read =
+    let inside : i < length ns = omega (arith, ap length e, length-map xs h) in
+    let there : get_or ns i 0 ≡ h x = ap (λ ys. get_or ys i 0) (sym e) ∙ get_or-map h xs i x 0 l ∙ ap h (sym at) in
+    let packed : is_packed (h x) ≡ true = ap is_packed (sym there) ∙ names i inside in
+    name_read r (h x) read (packed_name _ packed) ∙ ap Some (sym there) ∙ sym (slice_get-get_or ns i 0 inside)
+
+-- values that are read off entries
+pub read_off : {X Y : Type 0} (f : Y → ℕ) (g : X → Y) (xs ys : List X) → xs ≡ ys → map (λ x. f (g x)) xs ≡ map f (map g ys)
+read_off f g xs ys e = sym (column f g xs) ∙ ap (λ zs. map f (map g zs)) e
+
+-- one entry more
+pub valid_more : {E : Type 0} (f : E → ℕ) (es : List E) (e : E) → AllNames (map f es) → is_packed (f e) ≡ true → AllNames (map f (es ++ e ∷ []))
+valid_more f es e h p = subst AllNames (sym (map-append f es (e ∷ []))) (names_push (map f es) (f e) h p)
+
+pub distinct_more : {E : Type 0} (f : E → ℕ) (es : List E) (e : E) → distinct (map f es) ≡ true → has_name (f e) (map f es) ≡ false → distinct (map f (es ++ e ∷ [])) ≡ true
+distinct_more f es e h n = ap distinct (map-append f es (e ∷ [])) ∙ distinct_push (map f es) (f e) h n

@@ -1,4 +1,3 @@
 mod Weighing
 mod Found
-mod Declared
-mod Charted
+mod Listed

@@ -1,30 +1,29 @@
 -- The laws of rows and charts that the crates above use. Assumes nothing.
-use Rattle.std.specs.Prelude.{◌≡◌, ℕ, zero, suc, ◌+◌, ◌^◌, ◌<◌, ◌≤◌, Bool, true, false, not, ◌&&◌, ◌||◌, List, [], ◌∷◌, length, take, ◌==◌, nat_lt, refl}
+use Rattle.std.specs.Prelude.{◌≡◌, ℕ, zero, suc, ◌+◌, ◌^◌, ◌<◌, ◌≤◌, Bool, true, false, not, ◌&&◌, ◌||◌, List, [], ◌∷◌, length, ◌==◌, nat_lt, refl}
 use Rattle.std.specs.List.{list_all, range_with_len}
 use Rattle.std.proofs.Common.{sym, ap, subst, ◌∙◌, arith, lit<}
 use Rattle.std.proofs.Math.Logic.{inl, inr}
-use Rattle.std.proofs.lemmas.List.{get_or_past, get_or-take, length-take-le}
+use Rattle.std.proofs.lemmas.List.{get_or_past}
 use Rattle.std.proofs.lemmas.Bool.{cases_lt, cases_eq, and_parts, or_cases, not-true, eqb-true, ltb-true}
 use Rattle.places.specs.Sets.{everywhere, size}
 use Rattle.places.specs.Laws.{tokens_empty, set_placed}
-use Rattle.names.specs.Numbers.{is_packed}
-use Rattle.nets.specs.Meaning.{Limits, least_output}
+use Rattle.nets.specs.Meaning.{Limits}
 use Rattle.charts.specs.Charts.{chart_view, chart_meaning}
 use Rattle.charts.specs.Naming.{AllNames, distinct}
-use Rattle.charts.specs.NameTables.{names_of}
 use Rattle.charts.specs.PlaceTables.{places_of}
 use Rattle.charts.specs.Rows.{RowView, empty_row, row_view, empty_at, empty_from}
-use Rattle.charts.specs.Tables.{row_of, transition_of}
-use Rattle.charts.specs.TableLaws.{names_few, place_count, places_named, places_marked, transition_count, transition_there, transition_past, transitions_named, labels_named}
+use Rattle.charts.specs.Tables.{listed_transitions, entry_at}
+use Rattle.charts.specs.TableLaws.{places_few, transitions_few, transition_past}
 use Rattle.charts.specs.Views.{TransitionEntry, no_transition, transition_at, place_names, transition_names, label_names, declared_marking}
 use Rattle.charts.specs.declared.row.ChartRow.{ChartRow}
 use Rattle.charts.specs.declared.chart.Chart.{Chart}
+use Rattle.charts.specs.declared.transition_table.Transition.{Transition}
 
--- what holds of every row of the code and of the empty row holds of each row of a table
-every_row : (K : RowView → Type 0) → ((r : ChartRow) → K (row_view r)) → K empty_row → (rows : List ChartRow) (t : ℕ) → K (row_of rows t)
+-- what holds of every row of the code and of the empty row holds of the row at each number
+every_row : (K : RowView → Type 0) → ((r : ChartRow) → K (row_view r)) → K empty_row → (ts : List Transition) (t : ℕ) → K (entry_at (listed_transitions ts) t).row
 every_row K each none [] t = none
-every_row K each none (r ∷ rows) zero = each r
-every_row K each none (r ∷ rows) (suc t) = every_row K each none rows t
+every_row K each none (x ∷ ts) zero = each x.row
+every_row K each none (x ∷ ts) (suc t) = every_row K each none ts t
 
 -- the weights of a row add up to at most 4, and lie on the places 0 to 15, as its inhibitors do
 pub row_few_inputs : (r : ChartRow) → size (row_view r).inputs ≤ 4
@@ -60,54 +59,49 @@ empty_there P k p r e g l = elim (or_cases (nat_lt p P) (empty_at r p) (each_in_
 ]
 
 module _ (c : Chart) where
-  abbrev names : List ℕ
-  names = names_of c.transitions
-
   -- at most 16 places and 32 transitions, and declared markings of at most 64 together
   pub few_places : length (chart_view c).places ≤ 16
-  few_places = omega (arith, place_count c.places, names_few c.places.names)
+  few_places = places_few c.places
 
   pub few_transitions : length (chart_view c).transitions ≤ 32
-  few_transitions = omega (arith, transition_count c, names_few c.transitions)
+  few_transitions = transitions_few c
 
   pub few_tokens : size (declared_marking (chart_view c)) ≤ 64
-  few_tokens = omega (arith, ap size (places_marked c.places), c.places.total, c.places.few)
+  few_tokens = omega (arith, c.places.total, c.places.few)
 
   -- names are names, no two places have the same, and no two closed transitions have the same; labels are names
   pub place_names_valid : AllNames (place_names (chart_view c))
-  place_names_valid = subst AllNames (sym (places_named c.places)) c.places.names.named
+  place_names_valid = c.places.named
 
   pub place_names_distinct : distinct (place_names (chart_view c)) ≡ true
-  place_names_distinct = ap distinct (places_named c.places) ∙ c.places.names.apart
+  place_names_distinct = c.places.apart
 
   pub transition_names_valid : AllNames (transition_names (chart_view c))
-  transition_names_valid = subst AllNames (sym (transitions_named c)) c.transitions.named
+  transition_names_valid = c.transitions.named
 
   pub transition_names_distinct : distinct (transition_names (chart_view c)) ≡ true
-  transition_names_distinct = ap distinct (transitions_named c) ∙ c.transitions.apart
+  transition_names_distinct = c.transitions.apart
 
   pub labels_valid : AllNames (label_names (chart_view c))
-  labels_valid =
-      let long : length (take (length names) c.labels) ≡ length names = length-take-le (length names) c.labels (omega (arith, names_few c.transitions, c.whole)) in
-      subst AllNames (sym (labels_named c)) (λ t l. ap is_packed (get_or-take (length names) c.labels t 0 (omega arith)) ∙ c.labelled t (omega arith))
+  labels_valid = c.transitions.labelled
 
   -- a row of a closed transition has nothing behind the last place
-  clear_row : (t p : ℕ) → t < length names → length (places_of c.places) ≤ p → ((row_of c.rows.items t).inputs p ≡ 0) × (((row_of c.rows.items t).outputs p ≡ 0) × ((row_of c.rows.items t).inhibitors p ≡ false))
+  clear_row : (t p : ℕ) → t < length (chart_view c).transitions → length (places_of c.places) ≤ p → ((transition_at (chart_view c) t).row.inputs p ≡ 0) × (((transition_at (chart_view c) t).row.outputs p ≡ 0) × ((transition_at (chart_view c) t).row.inhibitors p ≡ false))
   unfolding Low
   clear_row t p l g = elim (cases_lt p 16) [
     | inl low ↦
-        let r : RowView = row_of c.rows.items t in
+        let r : RowView = (transition_at (chart_view c) t).row in
         let h = and_parts (r.inputs p == 0) (r.outputs p == 0 && not (r.inhibitors p)) (empty_there (length (places_of c.places)) 16 p r (c.inside t l) g low) in
         let k = and_parts (r.outputs p == 0) (not (r.inhibitors p)) h.1 in
         (eqb-true (r.inputs p) 0 h.0, (eqb-true (r.outputs p) 0 k.0, not-true (r.inhibitors p) k.1))
-    | inr high ↦ every_row Low row_low (λ q m. (refl, (refl, refl))) c.rows.items t p high
+    | inr high ↦ every_row Low row_low (λ q m. (refl, (refl, refl))) c.transitions.transitions.items t p high
   ]
 
   -- what holds of the transition t, where it is closed and where it stands behind the last
-  by_number : (K : TransitionEntry → Type 0) (t : ℕ) → (t < length names → K (transition_of names c.labels c.rows.items t)) → K no_transition → K (transition_at (chart_view c) t)
-  by_number K t there past = elim (cases_lt t (length names)) [
-    | inl l ↦ subst K (sym (transition_there c t l)) (there l)
-    | inr g ↦ subst K (sym (transition_past c t (omega (arith, transition_count c)))) past
+  by_number : (K : TransitionEntry → Type 0) (t : ℕ) → (t < length (chart_view c).transitions → K (transition_at (chart_view c) t)) → K no_transition → K (transition_at (chart_view c) t)
+  by_number K t there none = elim (cases_lt t (length (chart_view c).transitions)) [
+    | inl l ↦ there l
+    | inr g ↦ subst K (sym (transition_past c t g)) none
   ]
 
   -- the net of a chart keeps the limits
@@ -115,11 +109,11 @@ module _ (c : Chart) where
   chart_limits = record {
     few_places = few_places;
     few_transitions = few_transitions;
-    some_input = λ t l. subst (λ (e : TransitionEntry). 1 ≤ size e.row.inputs) (sym (transition_there c t (omega (arith, transition_count c)))) (c.takes t (omega (arith, transition_count c)));
-    few_inputs = λ t l. by_number (λ e. size e.row.inputs ≤ 4) t (λ h. every_row (λ r. size r.inputs ≤ 4) row_few_inputs (omega (arith, tokens_empty 16 everywhere)) c.rows.items t) (omega (arith, tokens_empty 16 everywhere));
-    some_output = λ t l. subst (λ (e : TransitionEntry). least_output ≤ size e.row.outputs) (sym (transition_there c t (omega (arith, transition_count c)))) (c.gives t (omega (arith, transition_count c)));
-    few_outputs = λ t l. by_number (λ e. size e.row.outputs ≤ 4) t (λ h. every_row (λ r. size r.outputs ≤ 4) row_few_outputs (omega (arith, tokens_empty 16 everywhere)) c.rows.items t) (omega (arith, tokens_empty 16 everywhere));
-    short_label = λ t. by_number (λ e. e.label < 2 ^ 64) t (c.short t) (lit< tt);
+    some_input = c.transitions.takes;
+    few_inputs = λ t l. every_row (λ r. size r.inputs ≤ 4) row_few_inputs (omega (arith, tokens_empty 16 everywhere)) c.transitions.transitions.items t;
+    some_output = c.transitions.gives;
+    few_outputs = λ t l. every_row (λ r. size r.outputs ≤ 4) row_few_outputs (omega (arith, tokens_empty 16 everywhere)) c.transitions.transitions.items t;
+    short_label = λ t. by_number (λ e. e.label < 2 ^ 64) t (c.transitions.short t) (lit< tt);
     no_label = λ t g. ap (λ (e : TransitionEntry). e.label) (transition_past c t g);
     no_transition_input = λ t p g. ap (λ (e : TransitionEntry). e.row.inputs p) (transition_past c t g);
     no_transition_output = λ t p g. ap (λ (e : TransitionEntry). e.row.outputs p) (transition_past c t g);

@@ -4,10 +4,9 @@ pub mod Naming
 pub mod NamingLaws
 pub mod Views
 pub mod Tables
-pub mod NameTables
 pub mod PlaceTables
-pub mod RowTables
+pub mod TransitionTables
+pub mod Openings
 pub mod Charts
-pub mod Columns
 pub mod TableLaws
 pub mod Laws

@@ -1,68 +1,51 @@
--- Laws of the tables of a chart: how its lists are read off its columns. Assumes nothing.
-use Rattle.std.specs.Prelude.{◌≡◌, ℕ, ◌<◌, ◌≤◌, List, length, take, slice_index, refl}
-use Rattle.std.proofs.Common.{sym, ap, ◌∙◌, inl, inr, arith}
-use Rattle.std.proofs.Math.Path.{fun_ext}
-use Rattle.std.proofs.lemmas.List.FromFn.{length-map-range_with_len, get_or-map-range_with_len}
-use Rattle.std.proofs.lemmas.List.{get_or_past, get_or-take, length-take-le}
-use Rattle.std.proofs.lemmas.Bool.{cases_lt}
-use Rattle.places.specs.Tables.{counted}
+-- Laws of the tables of a chart: how its lists are read off them. Assumes nothing.
+use Rattle.std.specs.Prelude.{◌≡◌, ℕ, ◌<◌, ◌≤◌, List, [], ◌∷◌, map, length, slice_index_or, refl}
+use Rattle.std.proofs.Common.{ap, arith}
+use Rattle.std.proofs.lemmas.List.{get_or-map, get_or_past, length-map}
 use Rattle.charts.specs.Charts.{chart_view}
-use Rattle.charts.specs.Columns.{column}
-use Rattle.charts.specs.NameTables.{names_of}
 use Rattle.charts.specs.PlaceTables.{places_of}
-use Rattle.charts.specs.Tables.{place_of, transition_of}
-use Rattle.charts.specs.Views.{PlaceEntry, TransitionEntry, no_place, no_transition, marking_in, place_names_in, transition_at, transition_names, label_names}
+use Rattle.charts.specs.Tables.{place_entry, transition_entry}
+use Rattle.charts.specs.Views.{PlaceEntry, TransitionEntry, no_transition, marking_in, place_names_in, transition_at, transition_names, label_names}
 use Rattle.charts.specs.declared.chart.Chart.{Chart}
-use Rattle.charts.specs.declared.name_table.NameTable.{NameTable}
+use Rattle.charts.specs.declared.place_table.Place.{Place}
 use Rattle.charts.specs.declared.place_table.PlaceTable.{PlaceTable}
+use Rattle.charts.specs.declared.transition_table.Transition.{Transition}
 
--- how many names a table has, and each
-pub names_length : {N : ℕ} (t : NameTable N) → length (names_of t) ≡ t.count
-names_length t = length-take-le t.count t.numbers (omega (arith, t.whole, t.room))
+-- a column of the entries
+pub column : {X Y : Type 0} (f : Y → ℕ) (g : X → Y) (xs : List X) → map f (map g xs) ≡ map (λ x. f (g x)) xs
+column f g [] = refl
+column f g (x ∷ xs) = ap (λ ns. f (g x) ∷ ns) (column f g xs)
 
-pub names_at : {N : ℕ} (t : NameTable N) (i : ℕ) → i < t.count → slice_index (names_of t) i ≡ slice_index t.numbers i
-names_at t i l = get_or-take t.count t.numbers i 0 l
-
-pub names_few : {N : ℕ} (t : NameTable N) → length (names_of t) ≤ N
-names_few t = omega (arith, names_length t, t.room)
-
--- the columns of a table of places
+-- the places of a table: how many, their names, and the marking of each
 module _ (t : PlaceTable) where
-  pub place_count : length (places_of t) ≡ length (names_of t.names)
-  place_count = length-map-range_with_len (place_of (names_of t.names) t.markings) 0 (length (names_of t.names))
+  pub place_count : length (places_of t) ≡ length t.places.items
+  place_count = length-map t.places.items place_entry
 
-  pub places_named : place_names_in (places_of t) ≡ names_of t.names
-  places_named = column (λ (e : PlaceEntry). e.name) (place_of (names_of t.names) t.markings) (length (names_of t.names)) (names_of t.names) refl (λ i l. refl)
+  pub places_few : length (places_of t) ≤ 16
+  places_few = omega (arith, place_count, t.room)
 
-  pub marked_at : (p : ℕ) → marking_in (places_of t) p ≡ slice_index t.markings p
-  marked_at p = elim (cases_lt p (length (names_of t.names))) [
-    | inl l ↦ ap (λ (e : PlaceEntry). e.marking) (get_or-map-range_with_len (place_of (names_of t.names) t.markings) 0 (length (names_of t.names)) p p no_place l (omega arith))
-    | inr g ↦ ap (λ (e : PlaceEntry). e.marking) (get_or_past (places_of t) p no_place (omega (arith, place_count))) ∙ sym (t.unmarked p g)
-  ]
+  pub places_named : place_names_in (places_of t) ≡ map (λ (p : Place). p.name) t.places.items
+  places_named = column (λ (e : PlaceEntry). e.name) place_entry t.places.items
 
-  pub places_marked : marking_in (places_of t) ≡ counted t.markings
-  places_marked = fun_ext marked_at
+  pub marked_at : (p : ℕ) (d : Place) → p < length t.places.items → marking_in (places_of t) p ≡ (slice_index_or t.places.items p d).marking
+  marked_at p d l = ap (λ (e : PlaceEntry). e.marking) (get_or-map place_entry t.places.items p d _ l)
 
--- the columns of a chart
+-- the closed transitions of a chart: how many, each of them, what stands behind the last, their names and labels
 module _ (c : Chart) where
-  abbrev names : List ℕ
-  names = names_of c.transitions
+  pub transition_count : length (chart_view c).transitions ≡ length c.transitions.transitions.items
+  transition_count = length-map c.transitions.transitions.items transition_entry
 
-  -- a closed transition, and what stands behind the last
-  pub transition_count : length (chart_view c).transitions ≡ length names
-  transition_count = length-map-range_with_len (transition_of names c.labels c.rows.items) 0 (length names)
+  pub transitions_few : length (chart_view c).transitions ≤ 32
+  transitions_few = omega (arith, transition_count, c.transitions.room)
 
-  pub transition_there : (t : ℕ) → t < length names → transition_at (chart_view c) t ≡ transition_of names c.labels c.rows.items t
-  transition_there t l = get_or-map-range_with_len (transition_of names c.labels c.rows.items) 0 (length names) t t no_transition l (omega arith)
+  pub transition_there : (t : ℕ) (d : Transition) → t < length c.transitions.transitions.items → transition_at (chart_view c) t ≡ transition_entry (slice_index_or c.transitions.transitions.items t d)
+  transition_there t d l = get_or-map transition_entry c.transitions.transitions.items t d no_transition l
 
   pub transition_past : (t : ℕ) → length (chart_view c).transitions ≤ t → transition_at (chart_view c) t ≡ no_transition
   transition_past t g = get_or_past (chart_view c).transitions t no_transition g
 
-  -- the columns of its lists
-  pub transitions_named : transition_names (chart_view c) ≡ names
-  transitions_named = column (λ (e : TransitionEntry). e.name) (transition_of names c.labels c.rows.items) (length names) names refl (λ t l. refl)
+  pub transitions_named : transition_names (chart_view c) ≡ map (λ (t : Transition). t.name) c.transitions.transitions.items
+  transitions_named = column (λ (e : TransitionEntry). e.name) transition_entry c.transitions.transitions.items
 
-  pub labels_named : label_names (chart_view c) ≡ take (length names) c.labels
-  labels_named =
-      let long : length (take (length names) c.labels) ≡ length names = length-take-le (length names) c.labels (omega (arith, names_few c.transitions, c.whole)) in
-      column (λ (e : TransitionEntry). e.label) (transition_of names c.labels c.rows.items) (length names) (take (length names) c.labels) long (λ t l. sym (get_or-take (length names) c.labels t 0 l))
+  pub labels_named : label_names (chart_view c) ≡ map (λ (t : Transition). t.label) c.transitions.transitions.items
+  labels_named = column (λ (e : TransitionEntry). e.label) transition_entry c.transitions.transitions.items

@@ -49,6 +49,10 @@ place_names_in ps = map (λ (e : PlaceEntry). e.name) ps
 abbrev pub transition_names_in : List TransitionEntry → List ℕ
 transition_names_in ts = map (λ (e : TransitionEntry). e.name) ts
 
+-- the labels of some transitions
+abbrev pub label_names_in : List TransitionEntry → List ℕ
+label_names_in ts = map (λ (e : TransitionEntry). e.label) ts
+
 -- the names of the places of a chart, of its closed transitions, and the labels of these
 abbrev pub place_names : View → List ℕ
 place_names v = place_names_in v.places
@@ -57,7 +61,7 @@ abbrev pub transition_names : View → List ℕ
 transition_names v = transition_names_in v.transitions
 
 abbrev pub label_names : View → List ℕ
-label_names v = map (λ (e : TransitionEntry). e.label) v.transitions
+label_names v = label_names_in v.transitions
 
 -- the marking that places declare, 0 behind the last
 abbrev pub marking_in : List PlaceEntry → Bag

@@ -3,12 +3,12 @@
 #![tactic(auto)]
 
 mod chart;
-mod heading;
-mod name_table;
+mod named;
+mod opened;
 mod place_table;
 mod refusals;
 mod row;
-mod row_table;
+mod transition_table;
 mod weights;
 
 pub use chart::Chart;

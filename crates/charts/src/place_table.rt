@@ -1,19 +1,36 @@
-ghost use Rattle.std.specs.Prelude.{◌≡◌, ℕ, ◌≤◌, length, slice_index};
+ghost use Rattle.std.specs.Prelude.{◌≡◌, ◌≤◌, true, length};
 ghost use Rattle.places.specs.Sets.{size};
-ghost use Rattle.places.specs.Tables.{counted};
-ghost use Rattle.charts.specs.NameTables.{names_of};
+ghost use Rattle.charts.specs.Naming.{AllNames, distinct};
+ghost use Rattle.charts.specs.Tables.{listed_places};
+ghost use Rattle.charts.specs.Views.{marking_in, place_names_in};
 
-use crate::name_table::NameTable;
+use crate::named::Named;
+use arrayvec::ArrayVec;
 
-/// The places of a chart: their names and their declared markings, at most 64 tokens together.
+/// A place: the number of its name, and its declared marking.
+#[derive(Clone, Copy, Debug, Default, PartialEq, Eq)]
+pub(crate) struct Place {
+    pub(crate) name: u64,
+    pub(crate) marking: u8,
+}
+
+impl Named for Place {
+    ghost named = { λ p. p.name };
+
+    fn number(&self) -> u64 {
+        self.name
+    }
+}
+
+/// The places of a chart, no two with the same name, their declared markings at most 64 tokens together.
 #[derive(Drop)]
 pub(crate) struct PlaceTable {
-    names: NameTable<16>,
-    markings: [u8; 16],
+    places: ArrayVec<Place, 16>,
     tokens: u8,
-    ghost whole: { length markings ≡ 16 },
-    ghost unmarked: { (p : ℕ) → length (names_of names) ≤ p → slice_index markings p ≡ 0 },
-    ghost total: { tokens ≡ size (counted markings) },
+    ghost room: { length places.items ≤ 16 },
+    ghost named: { AllNames (place_names_in (listed_places places.items)) },
+    ghost apart: { distinct (place_names_in (listed_places places.items)) ≡ true },
+    ghost total: { tokens ≡ size (marking_in (listed_places places.items)) },
     ghost few: { tokens ≤ 64 },
 }
 

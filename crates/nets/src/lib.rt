@@ -12,7 +12,7 @@ mod role;
 mod row;
 mod table;
 
-pub use role::Role;
+pub use role::{LEAST_SUM, MOST_SUM, Role};
 pub use row::Row;
 pub use table::Table;
 

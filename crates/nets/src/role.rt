@@ -5,3 +5,9 @@ pub enum Role {
     Input,
     Output,
 }
+
+/// The least sum of the weights of a transition in a role.
+pub const LEAST_SUM: u8 = 1;
+
+/// The greatest sum of the weights of a transition in a role.
+pub const MOST_SUM: u8 = 4;

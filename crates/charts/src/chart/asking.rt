@@ -21,14 +21,14 @@ impl Chart {
     pub fn transition_name(&self, t: u8) -> Option<Name>
         ensures { option_map number_of result ≡ slice_get (transition_names (chart_view self.now)) t }
     {
-        self.closed_name(t)
+        self.transitions.name(t)
     }
 
     /// The label of the closed transition `t`, as a name; none behind the last.
     pub fn label_name(&self, t: u8) -> Option<Name>
         ensures { option_map number_of result ≡ slice_get (label_names (chart_view self.now)) t }
     {
-        self.closed_label_name(t)
+        self.transitions.label_name(t)
     }
 
     /// The declared marking of the place `p`, 0 behind the last.
@@ -49,6 +49,6 @@ impl Chart {
     pub fn find_transition(&self, name: Name) -> Option<u8>
         ensures { result ≡ position (number_of name) (transition_names (chart_view self.now)) }
     {
-        self.closed_number(name)
+        self.transitions.find(name)
     }
 }

@@ -11,6 +11,7 @@ ghost use Rattle.charts.specs.contracts.row.ChartRow.{the_row as row-row};
 
 use super::*;
 use crate::ChartRefusal;
+use crate::row::ChartRow;
 use names::Name;
 
 impl Chart {
@@ -20,11 +21,8 @@ impl Chart {
     {
         Chart {
             places: PlaceTable::new(),
-            transitions: NameTable::new(),
-            labels: [0; 32],
-            rows: RowTable::of(ChartRow::new()),
+            transitions: TransitionTable::new(),
             opened: None,
-            lends: [],
         }
     }
 
@@ -44,14 +42,14 @@ impl Chart {
         ensures result { result ≡ opened_as (chart_view self.old) (number_of name) }
         ensures after { chart_view self.new ≡ unless_refused result (chart_view self.old) (with_open (chart_view self.old) (number_of name) (number_of label)) }
     {
-        if self.is_closed(name) {
+        if self.transitions.has(name) {
             return Err(ChartRefusal::DeclaredAgain);
         }
-        let t = self.closed_count();
+        let t = self.transitions.len();
         if t > 31 {
             return Err(ChartRefusal::TooManyTransitions);
         }
-        self.start(Heading { name, label });
+        self.start(name, label);
         Ok(t)
     }
 
@@ -60,7 +58,7 @@ impl Chart {
         ensures* follows { sem 𝓛 (follows_so chart-row row-row self.entry.ghost_name (name_of result) (λ w n. (is_some result ≡ true → chart_view n ≡ with_row (chart_view self.old) (row_view w))) (λ n. n ≡ self.old)) }
         ensures value { option_map (λ x. row_view x.now) result ≡ option_map (λ (e : TransitionEntry). e.row) (chart_view self.old).opened }
     {
-        self.lend_last()
+        self.lend_opened()
     }
 
     /// Closes the open transition and gives its number; or says why not.
@@ -71,5 +69,13 @@ impl Chart {
         let t = self.check_open()?;
         self.finish();
         Ok(t)
+    }
+}
+
+impl Default for Chart {
+    ghost is_default = { λ c. chart_view c ≡ empty_view };
+
+    fn default() -> Self {
+        Chart::new()
     }
 }

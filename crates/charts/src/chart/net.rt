@@ -14,22 +14,22 @@ impl Net for Chart {
     }
 
     fn transitions(&self) -> u8 {
-        self.closed_count()
+        self.transitions.len()
     }
 
     fn label(&self, t: u8) -> u64 {
-        self.closed_label(t)
+        self.transitions.label(t)
     }
 
     fn input(&self, t: u8, p: u8) -> u8 {
-        self.closed_row(t).map_or(0, |row| row.input(p))
+        self.transitions.row(t).map_or(0, |row| row.input(p))
     }
 
     fn output(&self, t: u8, p: u8) -> u8 {
-        self.closed_row(t).map_or(0, |row| row.output(p))
+        self.transitions.row(t).map_or(0, |row| row.output(p))
     }
 
     fn inhibits(&self, t: u8, p: u8) -> bool {
-        self.closed_row(t).is_some_and(|row| row.inhibits(p))
+        self.transitions.row(t).is_some_and(|row| row.inhibits(p))
     }
 }

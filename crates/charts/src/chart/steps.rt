@@ -11,6 +11,8 @@ ghost use Rattle.charts.specs.contracts.chart.Chart.{the_row as chart-row};
 ghost use Rattle.charts.specs.contracts.row.ChartRow.{the_row as row-row};
 
 use super::*;
+use crate::row::ChartRow;
+use crate::{ChartRefusal, Role};
 use names::Name;
 
 impl Chart {
@@ -22,15 +24,25 @@ impl Chart {
         self.places.push(name, marking);
     }
 
-    /// Opens a transition behind the closed ones, with an empty row.
-    pub(super) fn start(&mut self, heading: Heading)
+    /// Opens a transition, with an empty row.
+    pub(super) fn start(&mut self, name: Name, label: Name)
         requires room { length (chart_view self.old).transitions < 32 }
-        requires new { has_name (number_of heading.name) (transition_names (chart_view self.old)) ≡ false }
-        ensures { chart_view self.new ≡ with_open (chart_view self.old) (number_of heading.name) (number_of heading.label) }
+        requires new { has_name (number_of name) (transition_names (chart_view self.old)) ≡ false }
+        ensures { chart_view self.new ≡ with_open (chart_view self.old) (number_of name) (number_of label) }
     {
-        let last = self.transitions.len() as usize;
-        self.rows.put(last, ChartRow::new());
-        self.opened = Some(heading);
+        self.opened = Some(Opened {
+            name,
+            label,
+            row: ChartRow::new(),
+        });
+    }
+
+    /// The number that the open transition gets when it is closed, or why it is not closed.
+    pub(super) fn check_open(&self) -> Result<u8, ChartRefusal>
+        ensures { result ≡ closed_as (chart_view self.now) }
+    {
+        let opened = self.opened.ok_or(ChartRefusal::Sum(Role::Input))?;
+        opened.row.check(self.places.len(), self.transitions.len())
     }
 
     /// Closes the open transition.
@@ -38,23 +50,20 @@ impl Chart {
         requires { is_ok (closed_as (chart_view self.old)) ≡ true }
         ensures { chart_view self.new ≡ with_closed (chart_view self.old) }
     {
-        if let Some(heading) = self.opened {
-            let last = self.transitions.len() as usize;
-            self.transitions.push(heading.name);
-            self.labels[last] = heading.label.number();
-            self.opened = None;
+        if let Some(opened) = self.opened.take() {
+            self.transitions.push(opened);
         }
     }
 
-    /// Lends the row behind those of the closed transitions, where a transition is open.
-    pub(super) fn lend_last(&mut self) -> Option<&mut ChartRow>
+    /// Lends the row of the open transition, where one is open.
+    pub(super) fn lend_opened(&mut self) -> Option<&mut ChartRow>
         ensures* follows { sem 𝓛 (follows_so chart-row row-row self.entry.ghost_name (name_of result) (λ w n. (is_some result ≡ true → chart_view n ≡ with_row (chart_view self.old) (row_view w))) (λ n. n ≡ self.old)) }
         ensures value { option_map (λ x. row_view x.now) result ≡ option_map (λ (e : TransitionEntry). e.row) (chart_view self.old).opened }
     {
-        if self.opened.is_some() {
-            let last = self.transitions.len() as usize;
-            return Some(self.rows.at_mut(last));
+        // By `as_mut` with `map` or `?` the goal of `follows` is left open, as `⊥ × ..`.
+        match &mut self.opened {
+            Some(opened) => Some(&mut opened.row),
+            None => None,
         }
-        None
     }
 }

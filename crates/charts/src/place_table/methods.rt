@@ -9,6 +9,7 @@ ghost use Rattle.charts.specs.Views.{marking_in, place_declared_as, place_names_
 
 use super::*;
 use crate::ChartRefusal;
+use crate::named::find;
 use names::Name;
 
 impl PlaceTable {
@@ -17,8 +18,7 @@ impl PlaceTable {
         ensures { places_of result ≡ [] }
     {
         PlaceTable {
-            names: NameTable::new(),
-            markings: [0; 16],
+            places: ArrayVec::new(),
             tokens: 0,
         }
     }
@@ -28,35 +28,36 @@ impl PlaceTable {
         ensures value { result ≡ length (places_of self.now) }
         ensures few { result ≤ 16 }
     {
-        self.names.len()
+        self.places.len() as u8
     }
 
     /// The number of the place of a name.
     pub(crate) fn find(&self, name: Name) -> Option<u8>
         ensures { result ≡ position (number_of name) (place_names_in (places_of self.now)) }
     {
-        self.names.find(name)
+        find(&self.places, name)
     }
 
     /// Whether a place has the name.
     fn has(&self, name: Name) -> bool
         ensures { result ≡ has_name (number_of name) (place_names_in (places_of self.now)) }
     {
-        self.names.has(name)
+        self.find(name).is_some()
     }
 
     /// The name of a place.
     pub(crate) fn name(&self, p: u8) -> Option<Name>
         ensures { option_map number_of result ≡ slice_get (place_names_in (places_of self.now)) p }
     {
-        self.names.get(p)
+        let place = self.places.get(p as usize)?;
+        Name::from_number(place.name)
     }
 
     /// The declared marking of a place, 0 behind the last.
     pub(crate) fn marking(&self, p: u8) -> u8
         ensures { result ≡ marking_in (places_of self.now) p }
     {
-        if p < 16 { self.markings[p as usize] } else { 0 }
+        self.places.get(p as usize).map_or(0, |place| place.marking)
     }
 
     /// What the declared markings are together.
@@ -94,9 +95,11 @@ impl PlaceTable {
         requires few { size (marking_in (places_of self.old)) + marking ≤ 64 }
         ensures { places_of self.new ≡ with_declared (places_of self.old) (number_of name) marking }
     {
-        let place = self.names.len() as usize;
-        self.names.push(name);
-        self.markings[place] = marking;
+        let place = Place {
+            name: name.number(),
+            marking,
+        };
+        self.places.push(place);
         self.tokens += marking;
     }
 }

@@ -5,6 +5,7 @@ ghost use Rattle.charts.specs.Views.{row_closed_as, sum_checked_as};
 
 use super::*;
 use crate::{ChartRefusal, Role};
+use nets::LEAST_SUM;
 
 impl ChartRow {
     /// Whether the row has neither a weight nor an inhibitor at a place.
@@ -29,7 +30,7 @@ impl ChartRow {
         (0..16).all(|p| self.is_declared_at(places, p))
     }
 
-    /// Whether the weights of a role add up to enough: to at least 1.
+    /// Whether the weights of a role add up to enough.
     fn check_sum(&self, role: Role) -> Result<(), ChartRefusal>
         ensures { result ≡ sum_checked_as role (row_view self.now) }
     {
@@ -37,7 +38,7 @@ impl ChartRow {
             Role::Input => self.inputs.total(),
             Role::Output => self.outputs.total(),
         };
-        if sum < 1 {
+        if sum < LEAST_SUM {
             return Err(ChartRefusal::Sum(role));
         }
         Ok(())

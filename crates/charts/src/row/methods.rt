@@ -69,3 +69,11 @@ impl ChartRow {
         Ok(())
     }
 }
+
+impl Default for ChartRow {
+    ghost is_default = { λ r. row_view r ≡ empty_row };
+
+    fn default() -> Self {
+        ChartRow::new()
+    }
+}

@@ -6,6 +6,7 @@ ghost use Rattle.charts.specs.Refusals.{unless_refused};
 
 use super::*;
 use crate::RowRefusal;
+use nets::MOST_SUM;
 
 /// The sum of some numbers.
 fn sum_of(counts: &[u8]) -> u8
@@ -52,7 +53,7 @@ impl Weights {
         if self.at(place) > 0 {
             return Err(RowRefusal::Repeated);
         }
-        if self.total() + weight > 4 {
+        if self.total() + weight > MOST_SUM {
             return Err(RowRefusal::TooHeavy);
         }
         self.counts[place as usize] = weight;

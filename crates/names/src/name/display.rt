@@ -11,9 +11,7 @@ impl fmt::Display for Name {
     fn fmt<W: fmt::Write>(&self, f: &mut fmt::Formatter<W>) -> fmt::Result {
         let mut bytes = [0; 8];
         let len = self.write(&mut bytes);
-        match str::from_utf8(&bytes[..len]) {
-            Ok(text) => f.write_str(text),
-            Err(_) => Err(fmt::Error),
-        }
+        let text = str::from_utf8(&bytes[..len]).map_err(|_| fmt::Error)?;
+        f.write_str(text)
     }
 }
