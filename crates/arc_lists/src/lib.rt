@@ -33,6 +33,7 @@ impl ArcListRefusal {
     }
 }
 
+// The three stand apart here: they are what the caller holds, and `ArcList` is what has passed.
 /// Whether the arcs, over the places and with a label for each transition, are a net that keeps the limits.
 pub fn check_arcs(places: u8, labels: &[u64], arcs: &[Arc]) -> Result<(), ArcListRefusal>
     ensures { result ≡ checked (list_passes places labels.now arcs.now) }

@@ -5,6 +5,7 @@ use std::alloc::AllocError;
 /// At most N elements in the order in which they were added, of which `len` are held, at the front of the cells. Its
 /// order counts, so it is no bag: a bag in the sense of the definitions is what remains of it when the order is
 /// forgotten.
+// An array with a length beside it, and no `Vec`: the library asks for no memory. No `ArrayVec`: it is not `Copy`.
 #[derive(Drop)]
 pub struct Sequence<T, const N: usize> {
     cells: [T; N],

@@ -2,8 +2,7 @@ use crate::weights::Weights;
 use places::PlaceSet;
 
 /// One transition of a chart: its input weights, its output weights and the places that inhibit it.
-// No `Debug` and no `PartialEq`: `PlaceSet` has neither.
-#[derive(Clone, Copy)]
+#[derive(Clone, Copy, Debug, PartialEq, Eq)]
 pub struct ChartRow {
     inputs: Weights,
     outputs: Weights,

@@ -4,6 +4,7 @@ ghost use Rattle.nets.specs.Rows.{InputsKept, LabelsKept, OutputsKept};
 use crate::row::Row;
 
 /// A net as a plain table.
+// An array with the number of its rows beside it: a table is copied as a plain value, and asks for no memory.
 #[derive(Clone, Copy, Debug, PartialEq, Eq)]
 pub struct Table {
     places: u8,

@@ -1,5 +1,8 @@
 //! The search: tokens are paired one by one; where a right place has no free token, pairs are moved along a path
 //! of places to one that has.
+//!
+//! The relation, the pairs and the free tokens are three parameters: a struct would hold the relation too, and each
+//! function that changes it would have to say that the relation stays, where it now asks that the pairs are in it.
 ghost use Rattle.std.specs.Prelude.{◌≡◌, ℕ, ◌+◌, ◌-◌, ◌<◌, ◌≤◌, true, false, [], ◌∷◌, ◌++◌, length, set, Err, MatchBool, MatchOption, MatchResult, nat_lt, slice_set};
 ghost use Rattle.bags.specs.Items.{items};
 ghost use Rattle.pairing.specs.Answers.{Decided, LargerOn};

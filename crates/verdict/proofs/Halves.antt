@@ -1,7 +1,7 @@
 -- The obligations of one side.
 use Rattle.std.proofs.Common.{◌≡◌, ℕ, zero, suc, ◌+◌, ◌*◌, ◌^◌, ◌<◌, ◌≤◌, Bool, true, false, cond, not, ◌&&◌, T, ltb, List, [], ◌∷◌, ◌++◌, map, length, Some, None, Ok, Err, Option, Result, sym, refl, ap, ◌∙◌, subst, inl, inr, pow-suc, add-one, arith, length-append, pow_mono}
 use Rattle.std.proofs.lemmas.List.{length-map}
-use Rattle.std.proofs.lemmas.Bool.{cases_eq, cond-false, and_left, and_right, and_from, lt-ltb, not_from_true, not_from_false}
+use Rattle.std.proofs.lemmas.Bool.{cases_eq, cond-false, and_from, lt-ltb, not_from_false}
 use Rattle.places.specs.Sets.{PlaceRelation}
 use Rattle.places.specs.declared.Side.{Side}
 use Rattle.nets.specs.Meaning.{Meaning}
@@ -65,17 +65,17 @@ judged_by j size d before (Ok count) e h p f agrees =
     )
 judged_by j size d before (Err o) e h p f agrees = open_for j size d f agrees e h ∙ ap (maybe (at j.half.now.side j.t)) p.0 ∙ ap Some (sym p.1)
 
--- a self-blocked transition has no obligations
+-- a transition that obliges to nothing has no obligations
 none_obliged : {X : Type 0} (f : X → Bool) → ((x : X) → f x ≡ false) → (xs : List X) → keep f xs ≡ []
 none_obliged f h [] = refl
 none_obliged f h (x ∷ xs) = cond-false (f x) (x ∷ keep f xs) (keep f xs) (h x) ∙ none_obliged f h xs
 
-pub blocked_bags : (mover other : Meaning) (R : PlaceRelation) (t : ℕ) → true ≡ self_blocked mover t → bags_for mover other R t ≡ []
-blocked_bags mover other R t e = none_obliged (obliges mover R t) (λ ys. and_right (ltb t mover.transitions) (not (self_blocked mover t) && related_lists R (takes mover t) ys) (and_left (not (self_blocked mover t)) (related_lists R (takes mover t) ys) (not_from_true (self_blocked mover t) (sym e)))) (lists other.places (length (takes mover t)))
+pub no_bags : (mover other : Meaning) (R : PlaceRelation) (t : ℕ) → ((ys : List ℕ) → obliges mover R t ys ≡ false) → bags_for mover other R t ≡ []
+no_bags mover other R t h = none_obliged (obliges mover R t) h (lists other.places (length (takes mover t)))
 
-pub judged_blocked : (side : Side) (mover other : Meaning) (R : PlaceRelation) (t before : ℕ) → true ≡ self_blocked mover t → JudgedBelow side mover other R before (map (at side t) (bags_for mover other R t)) (Ok before)
-judged_blocked side mover other R t before e f agrees =
-    let none = blocked_bags mover other R t e in
+pub judged_none : (side : Side) (mover other : Meaning) (R : PlaceRelation) (t before : ℕ) → ((ys : List ℕ) → obliges mover R t ys ≡ false) → JudgedBelow side mover other R before (map (at side t) (bags_for mover other R t)) (Ok before)
+judged_none side mover other R t before h f agrees =
+    let none = no_bags mover other R t h in
     (ap (λ bs. first_open f (map (at side t) bs)) none, omega (arith, ap (λ bs. length (map (at side t) bs)) none))
 
 -- no list of nothing is left out

@@ -1,16 +1,17 @@
 //! The answer to one obligation.
-ghost use Rattle.std.specs.Prelude.{◌≡◌, ◌<◌, ◌≤◌, false};
+ghost use Rattle.std.specs.Prelude.{◌≡◌, ◌≤◌};
 ghost use Rattle.bisimulation.specs.Bisimulation.{between};
 ghost use Rattle.bisimulation.specs.Lists.{list_of};
-ghost use Rattle.bisimulation.specs.Verdicts.{answer_for, answer_on, self_blocked};
+ghost use Rattle.bisimulation.specs.Verdicts.{answer_for, answer_on};
 ghost use Rattle.nets.specs.Tables.{table_meaning};
 ghost use Rattle.places.specs.Meanings.{bag_of, relation_of};
 ghost use Rattle.places.specs.Sets.{size};
 ghost use Rattle.verdict.specs.ShortLists.{listed};
 ghost use Rattle.verdict.specs.Relating.{pairs_of};
 ghost use Rattle.verdict.specs.Results.{Answers};
+ghost use Rattle.verdict.specs.Search.{mover_of, other_of, related_by};
 
-use crate::answers::{find_answer, is_blocked};
+use crate::answers::find_answer;
 use crate::half::Half;
 use crate::job::Job;
 use crate::matching::related;
@@ -32,33 +33,25 @@ fn bag_list(bag: &PlaceBag) -> ShortList
     list
 }
 
-/// The answer to a transition that is there and not self-blocked, and a list of up to four places.
-fn answer_list(half: &Half, t: u8, ys: ShortList) -> Option<u8>
-    requires there { t < (table_meaning half.now.mover.now).transitions }
-    requires free { self_blocked (table_meaning half.now.mover.now) t ≡ false }
-    ensures { result ≡ answer_for (table_meaning half.now.mover.now) (table_meaning half.now.other.now) (pairs_of half.now.pairs) t (listed ys) }
+/// The answer to the transition of a job and a list of up to four places.
+fn answer_list(job: &Job, ys: ShortList) -> Option<u8>
+    ensures { result ≡ answer_for (mover_of job.now) (other_of job.now) (related_by job.now) job.now.t (listed ys) }
 {
-    let job = Job::of(half, t);
-    if !related(half, job.flows.takes, ys.as_slice()) {
+    if !related(job.half, job.flows.takes, ys.as_slice()) {
         return None;
     }
-    find_answer(&job, ys.as_slice())
+    find_answer(job, ys.as_slice())
 }
 
 /// The answer on one side.
 fn answer_half(half: &Half, t: u8, bag: &PlaceBag) -> Option<u8>
     ensures { result ≡ answer_for (table_meaning half.now.mover.now) (table_meaning half.now.other.now) (pairs_of half.now.pairs) t (list_of 16 (bag_of bag.now)) }
 {
-    if t >= half.mover.transitions() {
-        return None;
-    }
-    if is_blocked(half.mover, t) {
-        return None;
-    }
+    let job = Job::of(half, t)?;
     if bag.size() > 4 {
         return None;
     }
-    answer_list(half, t, bag_list(bag))
+    answer_list(&job, bag_list(bag))
 }
 
 /// The answer on either side.

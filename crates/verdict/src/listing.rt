@@ -5,7 +5,6 @@ ghost use Rattle.places.specs.Meanings.{relation_of};
 ghost use Rattle.verdict.specs.Results.{at, ListsAnswers};
 ghost use Rattle.verdict.specs.Search.{bags_of, obligations_of, WroteFor};
 
-use crate::answers::is_blocked;
 use crate::half::Half;
 use crate::job::Job;
 use crate::obligation::{AnsweredObligation, ListRefusal};
@@ -17,14 +16,12 @@ use places::{Relation, Side};
 
 /// How many obligations one transition has, added to `count`.
 fn count_transition(half: &Half, t: u8, count: u32) -> u32
-    requires there { t < (table_meaning half.now.mover.now).transitions }
-    requires room { count + 2 ^ 20 < 2 ^ 32 }
+    requires { count + 2 ^ 20 < 2 ^ 32 }
     ensures { result ≡ count + length (bags_of half.now t) }
 {
-    if is_blocked(half.mover, t) {
+    let Some(job) = Job::of(half, t) else {
         return count;
-    }
-    let job = Job::of(half, t);
+    };
     let size = job.flows.takes.len();
     first_open(&job, &|_: ShortList| true, ShortList::new(), 0, size, count).unwrap_or(count)
 }
@@ -43,15 +40,13 @@ fn count_side(half: &Half) -> u32
 
 /// Writes the obligations of one transition.
 fn write_transition(half: &Half, t: u8, start: usize, out: &mut [AnsweredObligation]) -> usize
-    requires there { t < (table_meaning half.now.mover.now).transitions }
-    requires room { start + length (bags_of half.now t) ≤ length out.old }
+    requires { start + length (bags_of half.now t) ≤ length out.old }
     ensures next { result ≡ start + length (bags_of half.now t) }
     ensures written { WroteFor half.now start out.old (map (at half.now.side t) (bags_of half.now t)) out.new }
 {
-    if is_blocked(half.mover, t) {
+    let Some(job) = Job::of(half, t) else {
         return start;
-    }
-    let job = Job::of(half, t);
+    };
     write_from(&job, ShortList::new(), 0, job.flows.takes.len(), start, out)
 }
 

@@ -4,7 +4,7 @@ ghost use Rattle.nets.specs.Tables.{table_meaning};
 ghost use Rattle.verdict.specs.Results.{at};
 ghost use Rattle.verdict.specs.Search.{bags_of, obligations_of, JudgedFor};
 
-use crate::answers::{find_answer, is_blocked};
+use crate::answers::find_answer;
 use crate::half::Half;
 use crate::job::Job;
 use crate::obligation::Obligation;
@@ -14,14 +14,12 @@ use nets::Net;
 
 /// Goes through the obligations of one transition.
 fn transition_open(half: &Half, t: u8, count: u32) -> Result<u32, Obligation>
-    requires there { t < (table_meaning half.now.mover.now).transitions }
-    requires room { count + 2 ^ 20 < 2 ^ 32 }
+    requires { count + 2 ^ 20 < 2 ^ 32 }
     ensures { JudgedFor half.now count (map (at half.now.side t) (bags_of half.now t)) result }
 {
-    if is_blocked(half.mover, t) {
+    let Some(job) = Job::of(half, t) else {
         return Ok(count);
-    }
-    let job = Job::of(half, t);
+    };
     let answered = |bag: ShortList| find_answer(&job, bag.as_slice()).is_some();
     let size = job.flows.takes.len();
     first_open(&job, &answered, ShortList::new(), 0, size, count)

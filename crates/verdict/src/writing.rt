@@ -1,4 +1,7 @@
 //! The obligations of one transition with their answers, written to the caller's slice.
+//!
+//! The same walk as in `walk`, and no closure of it: after a call nothing is known of a slice that a closure borrowed and
+//! changed.
 ghost use Rattle.std.specs.Prelude.{◌≡◌, ℕ, ◌+◌, ◌-◌, ◌<◌, ◌≤◌, true, [], ◌∷◌, ◌++◌, map, length};
 ghost use Rattle.bisimulation.specs.Verdicts.{obliges};
 ghost use Rattle.verdict.specs.Results.{Wrote};

@@ -46,6 +46,7 @@ impl ChartRow {
         self.inputs.add(place, weight)
     }
 
+    // Two methods that say the role in their names, over one `Weights::add`: callers write neither from a variable role.
     /// Makes `place` an output place with this weight, or says why not.
     pub fn add_output(&mut self, place: u8, weight: u8) -> Result<(), RowRefusal>
         ensures result { result ≡ added_as (row_view self.old).outputs place weight }

@@ -1,22 +1,25 @@
-ghost use Rattle.std.specs.Prelude.{◌≡◌, ◌<◌, false};
-ghost use Rattle.bisimulation.specs.Verdicts.{self_blocked};
+ghost use Rattle.std.specs.Prelude.{◌≡◌, ℕ, List, false, MatchOption};
+ghost use Rattle.bisimulation.specs.Verdicts.{obliges};
 ghost use Rattle.nets.specs.Tables.{table_meaning};
+ghost use Rattle.verdict.specs.Relating.{pairs_of};
 
 use super::*;
+use crate::answers::is_blocked;
 use crate::outline::flows_of;
+use nets::Net;
 
 impl<'a, 'b> Job<'a, 'b> {
-    /// The job of a transition.
-    pub(crate) fn of(half: &'b Half<'a>, t: u8) -> Job<'a, 'b>
-        requires there { t < (table_meaning half.now.mover.now).transitions }
-        requires free { self_blocked (table_meaning half.now.mover.now) t ≡ false }
-        ensures half { result.half.now ≡ half.now }
-        ensures t { result.t ≡ t }
+    /// The job of a transition; none where it has no obligations, since it is not there or self-blocked.
+    pub(crate) fn of(half: &'b Half<'a>, t: u8) -> Option<Job<'a, 'b>>
+        ensures { MatchOption result ((ys : List ℕ) → obliges (table_meaning half.now.mover.now) (pairs_of half.now.pairs) t ys ≡ false) (λ j. (j.half.now ≡ half.now) × (j.t ≡ t)) }
     {
-        Job {
+        if t >= half.mover.transitions() || is_blocked(half.mover, t) {
+            return None;
+        }
+        Some(Job {
             half,
             t,
             flows: flows_of(half.mover, t),
-        }
+        })
     }
 }

@@ -15,10 +15,7 @@ pub count_transition-count-requires : goal.count_transition-count-requires
 count_transition-count-requires c =
     let h = c.args.half.now in
     let n = table_meaning h.mover.now in
-    record {
-      there = omega (arith, c.transitions-t-end.ensures, c.loop-t-test.true);
-      room = omega (arith, c.loop-t.invariant.1, side_few h.side n (table_meaning h.other.now) (pairs_of h.pairs) c.loop-t.t (table_limits h.other.now).few_places (λ t. flow_short n Input t (table_limits h.mover.now)), c.loop-t-test.true, c.transitions-t-end.ensures, (table_limits h.mover.now).few_transitions);
-    }
+    omega (arith, c.loop-t.invariant.1, side_few h.side n (table_meaning h.other.now) (pairs_of h.pairs) c.loop-t.t (table_limits h.other.now).few_places (λ t. flow_short n Input t (table_limits h.mover.now)), c.loop-t-test.true, c.transitions-t-end.ensures, (table_limits h.mover.now).few_transitions)
 
 pub loop-t-preserved : goal.loop-t-preserved
 loop-t-preserved c =

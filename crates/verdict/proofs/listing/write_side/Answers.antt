@@ -14,10 +14,7 @@ write_transition-next-requires c =
     let h = c.args.half.now in
     let n = table_meaning h.mover.now in
     let l : c.loop-t.t < n.transitions = omega (arith, c.transitions-t-end.ensures, c.loop-t-test.true) in
-    record {
-      there = l;
-      room = omega (arith, c.requires.room, c.loop-t.invariant.1.counted, still_room h.side n (table_meaning h.other.now) (pairs_of h.pairs) c.loop-t.t n.transitions l, written_long c.loop-t.invariant.1);
-    }
+    omega (arith, c.requires.room, c.loop-t.invariant.1.counted, still_room h.side n (table_meaning h.other.now) (pairs_of h.pairs) c.loop-t.t n.transitions l, written_long c.loop-t.invariant.1)
 
 pub loop-t-preserved : goal.loop-t-preserved
 loop-t-preserved c =

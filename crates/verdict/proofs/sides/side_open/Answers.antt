@@ -18,10 +18,7 @@ loop-t-init c =
 pub transition_open-requires : goal.transition_open-requires
 transition_open-requires c =
     let h = c.args.half.now in
-    record {
-      there = omega (arith, c.transitions-t-end.ensures, c.loop-t-test.true);
-      room = omega (arith, c.requires.room, c.loop-t.invariant.1.few, c.loop-t.invariant.1.counted, c.loop-t-test.true, c.transitions-t-end.ensures, (table_limits h.mover.now).few_transitions);
-    }
+    omega (arith, c.requires.room, c.loop-t.invariant.1.few, c.loop-t.invariant.1.counted, c.loop-t-test.true, c.transitions-t-end.ensures, (table_limits h.mover.now).few_transitions)
 
 pub returns-in_err-count : goal.returns-in_err-count
 returns-in_err-count c =
