@@ -8,7 +8,7 @@ use places::Side;
 
 /// An obligation: a transition of one side, and a bag of places of the other side that is related to its pre-set, as an
 /// ascending list.
-#[derive(Clone, Copy)]
+#[derive(Clone, Copy, Debug, PartialEq, Eq)]
 pub struct Obligation {
     pub side: Side,
     pub transition: u8,
@@ -16,7 +16,7 @@ pub struct Obligation {
 }
 
 /// An obligation and its answer, or none.
-#[derive(Clone, Copy)]
+#[derive(Clone, Copy, Debug, PartialEq, Eq)]
 pub struct AnsweredObligation {
     pub obligation: Obligation,
     pub answer: Option<u8>,
@@ -40,7 +40,7 @@ impl AnsweredObligation {
 }
 
 /// Why a relation is refused.
-#[derive(Clone, Copy)]
+#[derive(Clone, Copy, Debug, PartialEq, Eq)]
 pub enum VerdictRefusal {
     /// 34: the relation is no place bisimulation. With it comes the first obligation that has no answer.
     Unsound(Obligation),

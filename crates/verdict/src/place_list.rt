@@ -1,5 +1,9 @@
 //! A list of places, handed out.
-ghost use Rattle.std.specs.Prelude.{◌≡◌, [], take};
+ghost use Rattle.std.specs.Prelude.{◌≡◌, [], nat_eq, take};
+ghost use Rattle.std.proofs.Common.{rules};
+ghost use Rattle.std.specs.Cmp.{on_equiv, on_per};
+ghost use Rattle.std.specs.Cmp.Lexicographic.{pointwise, lists_equiv, lists_per};
+ghost use Rattle.std.specs.Cmp.Rules.{comparing};
 ghost use Rattle.verdict.specs.PlaceLists.{places_in};
 ghost use Rattle.verdict.specs.ShortLists.{listed};
 
@@ -8,7 +12,7 @@ use crate::short_list::ShortList;
 /// The bag of an obligation: an ascending list of up to four places, each as often as the bag holds it.
 // It is no `Sequence`, and has no ghost field: the checker takes no enum apart that holds a struct with one, and a refusal
 // holds this list.
-#[derive(Clone, Copy)]
+#[derive(Clone, Copy, Debug)]
 pub struct PlaceList {
     items: [u8; 4],
     len: usize,
@@ -48,4 +52,19 @@ impl PlaceList {
     {
         front(&self.items, self.len)
     }
+}
+
+/// Two lists are equal where their places are, whatever stands behind these.
+impl PartialEq for PlaceList {
+    ghost eq = { λ xs ys. pointwise nat_eq (places_in xs) (places_in ys) };
+
+    ghost laws = { on_per places_in (lists_per (Prim.search (comparing, rules))) };
+
+    fn eq(&self, other: &PlaceList) -> bool {
+        self.as_slice() == other.as_slice()
+    }
+}
+
+impl Eq for PlaceList {
+    ghost laws = { on_equiv places_in (lists_equiv (Prim.search (comparing, rules))) };
 }
