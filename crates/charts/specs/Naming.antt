@@ -19,7 +19,7 @@ has_name x ys = list_any (λ y. y == x) ys
 abbrev pub AllNames : List ℕ → Type 0
 AllNames ns = (i : ℕ) → i < length ns → is_packed (slice_index ns i) ≡ true
 
--- no number stands twice in the list
+-- no number stands twice in the list; a recursion of our own, since std has no test for it that computes
 abbrev pub distinct : List ℕ → Bool
 distinct [] = true
 distinct (x ∷ xs) = not (has_name x xs) && distinct xs
