@@ -4,7 +4,8 @@
 ghost use Rattle.std.specs.Prelude.{◌≡◌, ◌&&◌, ◌==◌, nat_eq};
 ghost use Rattle.demo_nets.specs.Kinds.{answered};
 
-use crate::tally::Tally;
+use crate::arcs::{INHIBITOR, INPUT, OUTPUT};
+use crate::ending::ending;
 use arc_lists::{Arc, ArcList};
 use charts::Chart;
 use names::Name;
@@ -12,7 +13,7 @@ use nets::{Net, Table};
 use std::io;
 
 /// A question to a net.
-#[derive(Clone, Copy)]
+#[derive(Clone, Copy, Debug, PartialEq, Eq)]
 pub enum Question {
     Places,
     Transitions,
@@ -23,7 +24,7 @@ pub enum Question {
 }
 
 /// A question in words, and its answer, worked out by hand.
-#[derive(Clone, Copy)]
+#[derive(Clone, Copy, Debug, PartialEq, Eq)]
 struct Line {
     words: &'static str,
     question: Question,
@@ -130,43 +131,13 @@ const LINES: [Line; 18] = [
     },
 ];
 
-const ARCS: [Arc; 6] = [
-    Arc {
-        transition: 0,
-        place: 0,
-        kind: 0,
-        weight: 1,
-    },
-    Arc {
-        transition: 0,
-        place: 1,
-        kind: 2,
-        weight: 1,
-    },
-    Arc {
-        transition: 0,
-        place: 0,
-        kind: 1,
-        weight: 1,
-    },
-    Arc {
-        transition: 1,
-        place: 0,
-        kind: 0,
-        weight: 2,
-    },
-    Arc {
-        transition: 1,
-        place: 1,
-        kind: 0,
-        weight: 1,
-    },
-    Arc {
-        transition: 1,
-        place: 1,
-        kind: 1,
-        weight: 3,
-    },
+const ARCS: &[Arc] = arcs![
+    (0, 0, INPUT, 1),
+    (0, 1, INHIBITOR, 1),
+    (0, 0, OUTPUT, 1),
+    (1, 0, INPUT, 2),
+    (1, 1, INPUT, 1),
+    (1, 1, OUTPUT, 3),
 ];
 
 /// Builds the transition t.
@@ -210,12 +181,12 @@ fn ask<N: Net>(net: &N, question: Question) -> u64
     ensures { result ≡ answered (N.Net.meaning net.now) question }
 {
     match question {
-        Question::Places => net.places() as u64,
-        Question::Transitions => net.transitions() as u64,
+        Question::Places => u64::from(net.places()),
+        Question::Transitions => u64::from(net.transitions()),
         Question::Label(t) => net.label(t),
-        Question::Input(t, p) => net.input(t, p) as u64,
-        Question::Output(t, p) => net.output(t, p) as u64,
-        Question::Inhibits(t, p) => { if net.inhibits(t, p) { 1 } else { 0 } }
+        Question::Input(t, p) => u64::from(net.input(t, p)),
+        Question::Output(t, p) => u64::from(net.output(t, p)),
+        Question::Inhibits(t, p) => u64::from(net.inhibits(t, p)),
     }
 }
 
@@ -249,22 +220,19 @@ fn compare<C: Net, T: Net, L: Net>(
     Ok(agrees)
 }
 
-/// Prints the net in its three kinds and counts it.
-pub fn run(rt: &HostRuntime, tally: &mut Tally) -> io::Result<()> {
+/// Prints the net in its three kinds, and says whether it came out as worked by hand.
+pub fn run(rt: &HostRuntime) -> io::Result<bool> {
     rt.println("one net as a chart, as its plain copy and as an arc list")?;
     let agrees = match build() {
         Some(chart) => compare(
             rt,
             &chart,
             &Table::of(&chart),
-            &ArcList::new(2, &LABELS, &ARCS),
+            &ArcList::new(2, &LABELS, ARCS),
         )?,
         None => false,
     };
-    tally.add(agrees);
-    if agrees {
-        rt.println("  as by hand\n")
-    } else {
-        rt.println("  NOT AS BY HAND\n")
-    }
+    let ending = ending(agrees);
+    println!(rt; "  {ending}\n")?;
+    Ok(agrees)
 }
