@@ -1,7 +1,8 @@
 //! The examples, with what was worked out by hand.
 use places::{LayRefusal, PlaceBag, Side};
 
-/// The refusal of an example: its number, with the side and the places that it shows.
+/// The refusal of an example: its number, with the side and the places that it shows. A plain number, as it is printed
+/// and as a caller gets it: a constant can make no set of places, so none of the library's refusals.
 #[derive(Clone, Copy, Debug, PartialEq, Eq)]
 pub struct Shown<'a> {
     pub number: u8,
@@ -55,7 +56,7 @@ const RIGHTS: [&str; 16] = [
 /// The relation of p with u and w, and of q with v and z.
 const K: [(u8, u8); 4] = [(0, 0), (0, 2), (1, 1), (1, 3)];
 
-/// Four tokens on each of the 16 places.
+/// Four tokens on each of the 16 places, written out as the lists below are: a constant can call no function.
 const FOUR_EACH: [u8; 64] = [
     0, 0, 0, 0, 1, 1, 1, 1, 2, 2, 2, 2, 3, 3, 3, 3, 4, 4, 4, 4, 5, 5, 5, 5, 6, 6, 6, 6, 7, 7, 7, 7,
     8, 8, 8, 8, 9, 9, 9, 9, 10, 10, 10, 10, 11, 11, 11, 11, 12, 12, 12, 12, 13, 13, 13, 13, 14, 14,

@@ -115,7 +115,7 @@ const LABEL_A: u64 = 0x6100_0000_0000_0000;
 
 const LABEL_B: u64 = 0x6200_0000_0000_0000;
 
-const LABEL_X: u64 = 0x7800_0000_0000_0000;
+pub const LABEL_X: u64 = 0x7800_0000_0000_0000;
 
 const NET_A: NamedNet = NamedNet {
     words: "p, q; go : a, p -> q; back : b, q -> p",
