@@ -1,17 +1,20 @@
 //! The examples, with what was worked out by hand.
-use places::Side;
+use places::{LayRefusal, PlaceBag, Side};
 
-/// What an example is to give, worked out by hand.
-#[derive(Clone, Copy)]
-pub enum Expected<'a> {
-    /// These pairs, in whatever order.
-    Pairs(&'a [(u8, u8)]),
-    /// The refusal with its number, the side and the places that it shows.
-    Refusal(u8, Side, &'a [u8]),
+/// The refusal of an example: its number, with the side and the places that it shows. A plain number, as it is printed
+/// and as a caller gets it: a constant can make no set of places, so none of the library's refusals.
+#[derive(Clone, Copy, Debug, PartialEq, Eq)]
+pub struct Shown<'a> {
+    pub number: u8,
+    pub side: Side,
+    pub places: &'a [u8],
 }
 
+/// What an example is to give, worked out by hand: pairs, in whatever order, or a refusal.
+pub type Expected<'a> = Result<&'a [(u8, u8)], Shown<'a>>;
+
 /// Two bags, as lists of tokens, and a relation, as a list of pairs.
-#[derive(Clone, Copy)]
+#[derive(Clone, Copy, Debug, PartialEq, Eq)]
 pub struct Example<'a> {
     pub title: &'a str,
     pub left_names: &'a [&'a str],
@@ -20,6 +23,16 @@ pub struct Example<'a> {
     pub right: &'a [u8],
     pub relation: &'a [(u8, u8)],
     pub expected: Expected<'a>,
+}
+
+impl Example<'_> {
+    /// The left and the right bag, or the first refusal of a token.
+    pub fn bags(&self) -> Result<(PlaceBag, PlaceBag), LayRefusal> {
+        Ok((
+            PlaceBag::try_from(self.left)?,
+            PlaceBag::try_from(self.right)?,
+        ))
+    }
 }
 
 const PQ: [&str; 2] = ["p", "q"];
@@ -43,7 +56,7 @@ const RIGHTS: [&str; 16] = [
 /// The relation of p with u and w, and of q with v and z.
 const K: [(u8, u8); 4] = [(0, 0), (0, 2), (1, 1), (1, 3)];
 
-/// Four tokens on each of the 16 places.
+/// Four tokens on each of the 16 places, written out as the lists below are: a constant can call no function.
 const FOUR_EACH: [u8; 64] = [
     0, 0, 0, 0, 1, 1, 1, 1, 2, 2, 2, 2, 3, 3, 3, 3, 4, 4, 4, 4, 5, 5, 5, 5, 6, 6, 6, 6, 7, 7, 7, 7,
     8, 8, 8, 8, 9, 9, 9, 9, 10, 10, 10, 10, 11, 11, 11, 11, 12, 12, 12, 12, 13, 13, 13, 13, 14, 14,
@@ -161,7 +174,11 @@ pub static PAIRINGS: [Example<'static>; 8] = [
         left: &[0, 0],
         right: &[0, 1],
         relation: &K,
-        expected: Expected::Refusal(33, Side::Left, &[0]),
+        expected: Err(Shown {
+            number: 33,
+            side: Side::Left,
+            places: &[0],
+        }),
     },
     Example {
         title: "p and q against u and v",
@@ -170,7 +187,7 @@ pub static PAIRINGS: [Example<'static>; 8] = [
         left: &[0, 1],
         right: &[0, 1],
         relation: &K,
-        expected: Expected::Pairs(&[(0, 0), (1, 1)]),
+        expected: Ok(&[(0, 0), (1, 1)]),
     },
     Example {
         title: "s1 and s2 against s3 and s4, where s1 must not take s4",
@@ -179,7 +196,7 @@ pub static PAIRINGS: [Example<'static>; 8] = [
         left: &[0, 1],
         right: &[0, 1],
         relation: &[(0, 0), (0, 1), (1, 1)],
-        expected: Expected::Pairs(&[(0, 0), (1, 1)]),
+        expected: Ok(&[(0, 0), (1, 1)]),
     },
     Example {
         title: "64 tokens a side, each place moved on by the last",
@@ -188,7 +205,7 @@ pub static PAIRINGS: [Example<'static>; 8] = [
         left: &FOUR_EACH,
         right: &FOUR_EACH,
         relation: &STEPS,
-        expected: Expected::Pairs(&ALL_STEPPED),
+        expected: Ok(&ALL_STEPPED),
     },
     Example {
         title: "two empty bags",
@@ -197,7 +214,7 @@ pub static PAIRINGS: [Example<'static>; 8] = [
         left: &[],
         right: &[],
         relation: &K,
-        expected: Expected::Pairs(&[]),
+        expected: Ok(&[]),
     },
     Example {
         title: "the right bag larger than the left",
@@ -206,7 +223,11 @@ pub static PAIRINGS: [Example<'static>; 8] = [
         left: &[0, 1],
         right: &[0, 1, 3],
         relation: &K,
-        expected: Expected::Refusal(33, Side::Right, &[0, 1, 3]),
+        expected: Err(Shown {
+            number: 33,
+            side: Side::Right,
+            places: &[0, 1, 3],
+        }),
     },
     Example {
         title: "the left bag larger than the right",
@@ -215,7 +236,11 @@ pub static PAIRINGS: [Example<'static>; 8] = [
         left: &[1, 0, 1],
         right: &[2],
         relation: &K,
-        expected: Expected::Refusal(33, Side::Left, &[0, 1]),
+        expected: Err(Shown {
+            number: 33,
+            side: Side::Left,
+            places: &[0, 1],
+        }),
     },
     Example {
         title: "the empty relation",
@@ -224,6 +249,10 @@ pub static PAIRINGS: [Example<'static>; 8] = [
         left: &[1],
         right: &[0],
         relation: &[],
-        expected: Expected::Refusal(33, Side::Left, &[1]),
+        expected: Err(Shown {
+            number: 33,
+            side: Side::Left,
+            places: &[1],
+        }),
     },
 ];

@@ -6,50 +6,113 @@
 mod compare;
 mod examples;
 mod print;
-mod setup;
 
 use anyhow::anyhow;
 use compare::{pairs_agree, refusal_agrees};
-use examples::Example;
+use examples::{Example, PAIRINGS};
 use pairing::find_pairing;
-use print::{print_pairs, print_question, print_refusal, print_verdict};
-use setup::{bag_with, relation_with};
-use std::io;
+use places::{PlaceBag, PlaceSet, Relation};
+use print::{NamedBag, NamedPairs, NamedRefusal};
 
-/// Runs one example, prints it, and says whether it came out as worked by hand.
-fn run(rt: &HostRuntime, example: &Example) -> io::Result<bool> {
-    let Ok(left) = bag_with(example.left) else {
-        return Ok(false);
+/// Prints the two bags and the relation of an example.
+fn print_question(
+    rt: &HostRuntime,
+    example: &Example,
+    left: &PlaceBag,
+    right: &PlaceBag,
+) -> anyhow::Result<()> {
+    let title = example.title;
+    let left = NamedBag {
+        names: example.left_names,
+        bag: left,
     };
-    let Ok(right) = bag_with(example.right) else {
-        return Ok(false);
+    let right = NamedBag {
+        names: example.right_names,
+        bag: right,
     };
-    print_question(rt, example, &left, &right)?;
-    let agrees = match find_pairing(&relation_with(example.relation), &left, &right) {
-        Ok(pairs) => {
-            print_pairs(rt, "pairing", example, pairs.as_slice())?;
-            pairs_agree(pairs.as_slice(), &example.expected)
+    let relation = NamedPairs {
+        example,
+        pairs: example.relation,
+    };
+    println!(rt; "{title}\n  left:{left}\n  right:{right}\n  relation:{relation}")?;
+    Ok(())
+}
+
+/// Prints the pairing of two bags in ascending order, or the refusal, and says whether it came out as worked by hand.
+fn print_answer(
+    rt: &HostRuntime,
+    example: &Example,
+    left: &PlaceBag,
+    right: &PlaceBag,
+) -> anyhow::Result<bool> {
+    match find_pairing(&Relation::from(example.relation), left, right) {
+        Ok(found) => {
+            let mut pairs = found.as_slice().to_vec(rt.alloc())?;
+            pairs.sort()?;
+            let named = NamedPairs {
+                example,
+                pairs: &pairs,
+            };
+            println!(rt; "  pairing:{named}")?;
+            Ok(pairs_agree(found.as_slice(), &example.expected))
         }
         Err(refusal) => {
             let (side, places) = refusal.shown();
-            print_refusal(rt, "refused", example, refusal.number(), side, &places)?;
-            refusal_agrees(refusal, &example.expected)
+            let named = NamedRefusal {
+                example,
+                number: refusal.number(),
+                side,
+                places,
+            };
+            println!(rt; "  refused: {named}")?;
+            Ok(refusal_agrees(refusal, &example.expected))
         }
+    }
+}
+
+/// Prints what was worked out by hand.
+fn print_expected(rt: &HostRuntime, example: &Example) -> anyhow::Result<()> {
+    match example.expected {
+        Ok(pairs) => {
+            let named = NamedPairs { example, pairs };
+            println!(rt; "  by hand:{named}")?;
+        }
+        Err(shown) => {
+            let named = NamedRefusal {
+                example,
+                number: shown.number,
+                side: shown.side,
+                places: PlaceSet::from(shown.places),
+            };
+            println!(rt; "  by hand: {named}")?;
+        }
+    }
+    Ok(())
+}
+
+/// Runs one example, prints it, and says whether it came out as worked by hand.
+fn run(rt: &HostRuntime, example: &Example) -> anyhow::Result<bool> {
+    let Ok((left, right)) = example.bags() else {
+        return Ok(false);
     };
-    print_verdict(rt, example, agrees)?;
+    print_question(rt, example, &left, &right)?;
+    let agrees = print_answer(rt, example, &left, &right)?;
+    print_expected(rt, example)?;
+    rt.println(if agrees {
+        "  as by hand\n"
+    } else {
+        "  NOT AS BY HAND\n"
+    })?;
     Ok(agrees)
 }
 
 fn main(rt: HostRuntime) -> anyhow::Result<()> {
-    let mut agree: usize = 0;
-    let mut differ: usize = 0;
-    for example in &examples::PAIRINGS {
-        if run(&rt, example)? {
-            agree = agree.saturating_add(1);
-        } else {
-            differ = differ.saturating_add(1);
-        }
+    let mut outcomes = Vec::new(rt.alloc());
+    for example in &PAIRINGS {
+        outcomes.push(run(&rt, example)?)?;
     }
+    let agree = outcomes.iter().filter(|agrees| **agrees).count();
+    let differ = outcomes.iter().filter(|agrees| !**agrees).count();
     println!(rt; "{agree} as by hand, {differ} not")?;
     if differ > 0 {
         return Err(anyhow!("an example did not come out as by hand"));

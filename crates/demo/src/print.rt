@@ -1,108 +1,75 @@
-//! The lines of an example.
-use crate::compare::times;
-use crate::examples::{Example, Expected};
-use crate::setup::set_with;
+//! What is printed of an example: each struct is a value with the names of its places.
+use crate::examples::Example;
 use places::{PlaceBag, PlaceSet, Side};
-use std::io;
+use std::fmt;
 
 /// The name of a place.
 fn name<'a>(names: &[&'a str], place: u8) -> &'a str {
-    match names.get(place as usize) {
-        Some(name) => *name,
-        None => "?",
-    }
+    names.get(place as usize).copied().unwrap_or("?")
 }
 
-/// A bag: each place as often as the bag holds it.
-pub fn print_bag(rt: &HostRuntime, what: &str, names: &[&str], bag: &PlaceBag) -> io::Result<()> {
-    print!(rt; "  {what}:")?;
-    for place in 0..16u8 {
-        for _ in 0..bag.count(place) {
-            rt.print(" ")?;
-            rt.print(name(names, place))?;
-        }
-    }
-    rt.println("")
-}
-
-/// The pairs of a list that start at `left`, in ascending order.
-fn print_pairs_from(
-    rt: &HostRuntime,
-    example: &Example,
-    pairs: &[(u8, u8)],
-    left: u8,
-) -> io::Result<()> {
-    for right in 0..16u8 {
-        for _ in 0..times(pairs, (left, right)) {
-            let start = name(example.left_names, left);
-            let end = name(example.right_names, right);
-            print!(rt; " ({start},{end})")?;
-        }
+/// Writes a name as often as is asked, each behind a space.
+fn write_times<W: fmt::Write>(f: &mut fmt::Formatter<W>, name: &str, times: u8) -> fmt::Result {
+    for _ in 0..times {
+        write!(f, " {name}")?;
     }
     Ok(())
 }
 
-/// A list of pairs, in ascending order.
-pub fn print_pairs(
-    rt: &HostRuntime,
-    what: &str,
-    example: &Example,
-    pairs: &[(u8, u8)],
-) -> io::Result<()> {
-    print!(rt; "  {what}:")?;
-    for left in 0..16u8 {
-        print_pairs_from(rt, example, pairs, left)?;
-    }
-    rt.println("")
+/// A bag: each place as often as the bag holds it.
+#[derive(Clone, Copy)]
+pub struct NamedBag<'a> {
+    pub names: &'a [&'a str],
+    pub bag: &'a PlaceBag,
 }
 
-/// A refusal: its number, the side and the set that it shows.
-pub fn print_refusal(
-    rt: &HostRuntime,
-    what: &str,
-    example: &Example,
-    number: u8,
-    side: Side,
-    places: &PlaceSet,
-) -> io::Result<()> {
-    let (word, names) = match side {
-        Side::Left => ("left", example.left_names),
-        Side::Right => ("right", example.right_names),
-    };
-    print!(rt; "  {what}: {number} {word} {{")?;
-    for place in 0..16u8 {
-        if places.contains(place) {
-            rt.print(" ")?;
-            rt.print(name(names, place))?;
+impl fmt::Display for NamedBag<'_> {
+    fn fmt<W: fmt::Write>(&self, f: &mut fmt::Formatter<W>) -> fmt::Result {
+        for place in 0..16u8 {
+            write_times(f, name(self.names, place), self.bag.count(place))?;
         }
+        Ok(())
     }
-    rt.println(" }")
 }
 
-/// Two bags and a relation.
-pub fn print_question(
-    rt: &HostRuntime,
-    example: &Example,
-    left: &PlaceBag,
-    right: &PlaceBag,
-) -> io::Result<()> {
-    rt.println(example.title)?;
-    print_bag(rt, "left", example.left_names, left)?;
-    print_bag(rt, "right", example.right_names, right)?;
-    print_pairs(rt, "relation", example, example.relation)
+/// Pairs of a left and a right place of an example.
+#[derive(Clone, Copy)]
+pub struct NamedPairs<'a, 'b> {
+    pub example: &'a Example<'a>,
+    pub pairs: &'b [(u8, u8)],
 }
 
-/// What was worked out by hand, and whether it came.
-pub fn print_verdict(rt: &HostRuntime, example: &Example, agrees: bool) -> io::Result<()> {
-    match example.expected {
-        Expected::Pairs(pairs) => print_pairs(rt, "by hand", example, pairs)?,
-        Expected::Refusal(number, side, places) => {
-            print_refusal(rt, "by hand", example, number, side, &set_with(places))?;
+impl fmt::Display for NamedPairs<'_, '_> {
+    fn fmt<W: fmt::Write>(&self, f: &mut fmt::Formatter<W>) -> fmt::Result {
+        for (left, right) in self.pairs {
+            let start = name(self.example.left_names, *left);
+            let end = name(self.example.right_names, *right);
+            write!(f, " ({start},{end})")?;
         }
+        Ok(())
     }
-    if agrees {
-        rt.println("  as by hand\n")
-    } else {
-        rt.println("  NOT AS BY HAND\n")
+}
+
+/// A refusal of an example: its number, the side and the set that it shows.
+#[derive(Clone, Copy)]
+pub struct NamedRefusal<'a> {
+    pub example: &'a Example<'a>,
+    pub number: u8,
+    pub side: Side,
+    pub places: PlaceSet,
+}
+
+impl fmt::Display for NamedRefusal<'_> {
+    fn fmt<W: fmt::Write>(&self, f: &mut fmt::Formatter<W>) -> fmt::Result {
+        let number = self.number;
+        let (side, names) = match self.side {
+            Side::Left => ("left", self.example.left_names),
+            Side::Right => ("right", self.example.right_names),
+        };
+        write!(f, "{number} {side} {{")?;
+        for place in (0..16u8).filter(|place| self.places.contains(*place)) {
+            write_times(f, name(names, place), 1)?;
+        }
+        f.write_str(" }")
     }
 }

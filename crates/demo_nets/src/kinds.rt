@@ -4,15 +4,17 @@
 ghost use Rattle.std.specs.Prelude.{◌≡◌, ◌&&◌, ◌==◌, nat_eq};
 ghost use Rattle.demo_nets.specs.Kinds.{answered};
 
-use crate::tally::Tally;
+use crate::arcs::{INHIBITOR, INPUT, OUTPUT};
+use crate::cases::LABEL_X;
+use crate::ending::ending;
 use arc_lists::{Arc, ArcList};
 use charts::Chart;
 use names::Name;
 use nets::{Net, Table};
-use std::io;
+use std::{fmt, io};
 
 /// A question to a net.
-#[derive(Clone, Copy)]
+#[derive(Clone, Copy, Debug, PartialEq, Eq)]
 pub enum Question {
     Places,
     Transitions,
@@ -22,154 +24,132 @@ pub enum Question {
     Inhibits(u8, u8),
 }
 
-/// A question in words, and its answer, worked out by hand.
-#[derive(Clone, Copy)]
+/// The name of a transition of the net.
+fn transition(t: u8) -> &'static str {
+    ["t", "u"]
+        .get(t as usize)
+        .copied()
+        .unwrap_or("a third transition")
+}
+
+/// The name of a place of the net.
+fn place(p: u8) -> &'static str {
+    ["s", "h"]
+        .get(p as usize)
+        .copied()
+        .unwrap_or("a third place")
+}
+
+impl fmt::Display for Question {
+    fn fmt<W: fmt::Write>(&self, f: &mut fmt::Formatter<W>) -> fmt::Result {
+        match *self {
+            Question::Places => f.write_str("places"),
+            Question::Transitions => f.write_str("transitions"),
+            Question::Label(t) => write!(f, "label of {}", transition(t)),
+            Question::Input(t, p) => write!(f, "input of {} at {}", transition(t), place(p)),
+            Question::Output(t, p) => write!(f, "output of {} at {}", transition(t), place(p)),
+            Question::Inhibits(t, p) => write!(f, "{} inhibits {}", place(p), transition(t)),
+        }
+    }
+}
+
+/// A question, and its answer, worked out by hand.
+#[derive(Clone, Copy, Debug, PartialEq, Eq)]
 struct Line {
-    words: &'static str,
     question: Question,
     by_hand: u64,
 }
 
-/// The labels x and y: the byte of the letter highest, zero bytes below.
-const X: u64 = 0x7800_0000_0000_0000;
+/// The label y: the byte of the letter highest, zero bytes below.
+const LABEL_Y: u64 = 0x7900_0000_0000_0000;
 
-const Y: u64 = 0x7900_0000_0000_0000;
-
-const LABELS: [u64; 2] = [X, Y];
+const LABELS: [u64; 2] = [LABEL_X, LABEL_Y];
 
 const LINES: [Line; 18] = [
     Line {
-        words: "places",
         question: Question::Places,
         by_hand: 2,
     },
     Line {
-        words: "transitions",
         question: Question::Transitions,
         by_hand: 2,
     },
     Line {
-        words: "label of t",
         question: Question::Label(0),
-        by_hand: X,
+        by_hand: LABEL_X,
     },
     Line {
-        words: "label of u",
         question: Question::Label(1),
-        by_hand: Y,
+        by_hand: LABEL_Y,
     },
     Line {
-        words: "input of t at s",
         question: Question::Input(0, 0),
         by_hand: 1,
     },
     Line {
-        words: "input of t at h",
         question: Question::Input(0, 1),
         by_hand: 0,
     },
     Line {
-        words: "input of u at s",
         question: Question::Input(1, 0),
         by_hand: 2,
     },
     Line {
-        words: "input of u at h",
         question: Question::Input(1, 1),
         by_hand: 1,
     },
     Line {
-        words: "output of t at s",
         question: Question::Output(0, 0),
         by_hand: 1,
     },
     Line {
-        words: "output of t at h",
         question: Question::Output(0, 1),
         by_hand: 0,
     },
     Line {
-        words: "output of u at s",
         question: Question::Output(1, 0),
         by_hand: 0,
     },
     Line {
-        words: "output of u at h",
         question: Question::Output(1, 1),
         by_hand: 3,
     },
     Line {
-        words: "s inhibits t",
         question: Question::Inhibits(0, 0),
         by_hand: 0,
     },
     Line {
-        words: "h inhibits t",
         question: Question::Inhibits(0, 1),
         by_hand: 1,
     },
     Line {
-        words: "s inhibits u",
         question: Question::Inhibits(1, 0),
         by_hand: 0,
     },
     Line {
-        words: "h inhibits u",
         question: Question::Inhibits(1, 1),
         by_hand: 0,
     },
     Line {
-        words: "label of a third transition",
         question: Question::Label(2),
         by_hand: 0,
     },
     Line {
-        words: "input of t at a third place",
         question: Question::Input(0, 2),
         by_hand: 0,
     },
 ];
 
-const ARCS: [Arc; 6] = [
-    Arc {
-        transition: 0,
-        place: 0,
-        kind: 0,
-        weight: 1,
-    },
-    Arc {
-        transition: 0,
-        place: 1,
-        kind: 2,
-        weight: 1,
-    },
-    Arc {
-        transition: 0,
-        place: 0,
-        kind: 1,
-        weight: 1,
-    },
-    Arc {
-        transition: 1,
-        place: 0,
-        kind: 0,
-        weight: 2,
-    },
-    Arc {
-        transition: 1,
-        place: 1,
-        kind: 0,
-        weight: 1,
-    },
-    Arc {
-        transition: 1,
-        place: 1,
-        kind: 1,
-        weight: 3,
-    },
+const ARCS: &[Arc] = arcs![
+    (0, 0, INPUT, 1),
+    (0, 1, INHIBITOR, 1),
+    (0, 0, OUTPUT, 1),
+    (1, 0, INPUT, 2),
+    (1, 1, INPUT, 1),
+    (1, 1, OUTPUT, 3),
 ];
 
-/// Builds the transition t.
+/// Builds the transition t. A refusal is none: nothing is said of it, and an error enum would only be let go.
 fn add_t(chart: &mut Chart) -> Option<()> {
     chart
         .open_transition(Name::of(b"t")?, Name::of(b"x")?)
@@ -210,12 +190,12 @@ fn ask<N: Net>(net: &N, question: Question) -> u64
     ensures { result ≡ answered (N.Net.meaning net.now) question }
 {
     match question {
-        Question::Places => net.places() as u64,
-        Question::Transitions => net.transitions() as u64,
+        Question::Places => u64::from(net.places()),
+        Question::Transitions => u64::from(net.transitions()),
         Question::Label(t) => net.label(t),
-        Question::Input(t, p) => net.input(t, p) as u64,
-        Question::Output(t, p) => net.output(t, p) as u64,
-        Question::Inhibits(t, p) => { if net.inhibits(t, p) { 1 } else { 0 } }
+        Question::Input(t, p) => u64::from(net.input(t, p)),
+        Question::Output(t, p) => u64::from(net.output(t, p)),
+        Question::Inhibits(t, p) => u64::from(net.inhibits(t, p)),
     }
 }
 
@@ -235,36 +215,29 @@ fn compare<C: Net, T: Net, L: Net>(
 ) -> io::Result<bool> {
     let mut agrees = true;
     for line in &LINES {
-        let Line {
-            words,
-            question,
-            by_hand,
-        } = *line;
+        let Line { question, by_hand } = *line;
         let a = ask(chart, question);
         let b = ask(table, question);
         let c = ask(arcs, question);
-        println!(rt; "  {words}: chart {a}, table {b}, arc list {c}, by hand {by_hand}")?;
+        println!(rt; "  {question}: chart {a}, table {b}, arc list {c}, by hand {by_hand}")?;
         agrees = all_same(a, b, c, by_hand) && agrees;
     }
     Ok(agrees)
 }
 
-/// Prints the net in its three kinds and counts it.
-pub fn run(rt: &HostRuntime, tally: &mut Tally) -> io::Result<()> {
+/// Prints the net in its three kinds, and says whether it came out as worked by hand.
+pub fn run(rt: &HostRuntime) -> io::Result<bool> {
     rt.println("one net as a chart, as its plain copy and as an arc list")?;
     let agrees = match build() {
         Some(chart) => compare(
             rt,
             &chart,
             &Table::of(&chart),
-            &ArcList::new(2, &LABELS, &ARCS),
+            &ArcList::new(2, &LABELS, ARCS),
         )?,
         None => false,
     };
-    tally.add(agrees);
-    if agrees {
-        rt.println("  as by hand\n")
-    } else {
-        rt.println("  NOT AS BY HAND\n")
-    }
+    let ending = ending(agrees);
+    println!(rt; "  {ending}\n")?;
+    Ok(agrees)
 }

@@ -3,23 +3,39 @@
 
 #![tactic(auto)]
 
+/// A slice of arcs, each a row of its transition, its place, the number of its kind and its weight: a constant can call
+/// no function.
+macro_rules! arcs {
+    ($(($transition:expr, $place:expr, $kind:expr, $weight:expr)),* $(,)?) => {
+        &[
+            $(Arc {
+                transition: $transition,
+                place: $place,
+                kind: $kind,
+                weight: $weight,
+            }),*
+        ]
+    };
+}
+
+mod arcs;
 mod cases;
+mod ending;
 mod kinds;
-mod setup;
-mod tally;
+mod named;
 mod verdicts;
 
 use anyhow::anyhow;
-use tally::Tally;
+use cases::CASES;
 
 fn main(rt: HostRuntime) -> anyhow::Result<()> {
-    let mut tally = Tally {
-        agree: 0,
-        differ: 0,
-    };
-    kinds::run(&rt, &mut tally)?;
-    verdicts::run(&rt, &mut tally)?;
-    let Tally { agree, differ } = tally;
+    let mut outcomes = Vec::new(rt.alloc());
+    outcomes.push(kinds::run(&rt)?)?;
+    for case in &CASES {
+        outcomes.push(verdicts::run(&rt, case)?)?;
+    }
+    let agree = outcomes.iter().filter(|agrees| **agrees).count();
+    let differ = outcomes.iter().filter(|agrees| !**agrees).count();
     println!(rt; "{agree} as by hand, {differ} not")?;
     if differ > 0 {
         return Err(anyhow!("an example did not come out as by hand"));

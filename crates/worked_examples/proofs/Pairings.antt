@@ -1,6 +1,6 @@
 -- The worked examples of pairings.
-use Rattle.std.proofs.Common.{◌≡◌, ℕ, ◌<◌, true, eqb, [], ◌∷◌, sym, refl, ap, ◌∙◌, subst, inl, inr, arith, lit<}
-use Rattle.std.proofs.lemmas.Bool.{cases_eq, cases_Bool, eq-eqb, ne_eqb, eqb-true}
+use Rattle.std.proofs.Common.{◌≡◌, ℕ, ◌<◌, true, eqb, [], ◌∷◌, sym, refl, ap, ◌∙◌, subst, arith, lit<}
+use Rattle.std.proofs.lemmas.Bool.{eqb-true}
 use Rattle.places.specs.Bags.{Bag}
 use Rattle.places.specs.Sets.{Subset, tokens_below, size, Placed}
 use Rattle.places.specs.Laws.{single_other}
@@ -39,10 +39,10 @@ unfolding tokens_below
 more = lit< tt
 
 sides : Left ≡ Right → ⊥
-sides e = let one : ◌≡◌ {A = ℕ} 0 1 = cc in omega arith
+sides e = grind (arith, e)
 
 marked_is_p : (x : ℕ) → 0 < m x → x ≡ p
-marked_is_p x some = elim (cases_eq 0 x) [ inl e ↦ sym e | inr not ↦ absurd (omega (arith, single_other 0 x not)) ]
+marked_is_p x some = grind (arith, some, single_other 0 x)
 
 left_only : (side : Side) → ((side ≡ Right) → 2 < 2) → side ≡ Left
 left_only Left h = refl
@@ -61,13 +61,7 @@ only side S shows = (is_left, set_is)
     has_p = subst (λ x. S x ≡ true) (marked_is_p on_left.some_place.0 (on_left.marked on_left.some_place.0 on_left.some_place.1)) on_left.some_place.1
 
     set_is : (x : ℕ) → S x ≡ eqb p x
-    set_is x = elim (cases_eq p x) [
-      | inl e ↦ ap S (sym e) ∙ has_p ∙ sym (eq-eqb p x e)
-      | inr not ↦ elim (cases_Bool (S x)) [
-        | inl yes-x ↦ absurd (not (sym (marked_is_p x (on_left.marked x yes-x))))
-        | inr no-x ↦ no-x ∙ sym (ne_eqb p x not)
-      ]
-    ]
+    set_is x = grind (arith, has_p, on_left.marked x, marked_is_p x)
 
 pub two_against_one_each : OutnumberedApart → TwoAgainstOneEach
 two_against_one_each apart = record {

@@ -1,12 +1,12 @@
 -- The relations, bags and sets of the worked examples. Assumes nothing.
-use Rattle.std.specs.Prelude.{ℕ, false, ◌&&◌, ◌||◌, List, [], ◌∷◌, ◌==◌}
+use Rattle.std.specs.Prelude.{ℕ, ◌&&◌, List, [], ◌∷◌, ◌==◌}
+use Rattle.std.specs.List.{list_any}
 use Rattle.places.specs.Bags.{Bag, empty, single, ◌⊕◌}
 use Rattle.places.specs.Sets.{PlaceRelation}
 
 -- the relation that has exactly the pairs of a list
 abbrev pub relating : List (ℕ × ℕ) → PlaceRelation
-relating [] p q = false
-relating (x ∷ xs) p q = (x.0 == p && x.1 == q) || relating xs p q
+relating xs p q = list_any (λ x. x.0 == p && x.1 == q) xs
 
 -- the bag of a list of tokens
 abbrev pub tokens : List ℕ → Bag

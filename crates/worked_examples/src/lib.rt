@@ -7,6 +7,7 @@ ghost use Rattle.worked_examples.specs.Worked.{WorkedExamples};
 use pairing::outnumbered_is_apart;
 
 /// All worked examples hold: a theorem.
+#[tactic(auto, using(crate::proofs::Pairings::two_against_one_each))]
 pub fn worked_examples_hold()
     ensures { WorkedExamples }
 {
@@ -35,16 +36,14 @@ mod tests {
     fn the_larger_side_is_shown(rt: HostRuntime) -> Result<(), Fail> {
         let mut right = PlaceBag::new();
         assert!(rt; right.lay(3).is_ok());
-        match find_pairing(&Relation::new(), &PlaceBag::new(), &right) {
-            Ok(_) => Err(Fail::new("a pairing was found")),
-            Err(refusal) => {
-                let (side, places) = refusal.shown();
-                assert!(rt; refusal.number() == 33);
-                assert!(rt; side == Side::Right);
-                assert!(rt; places.contains(3));
-                assert!(rt; !places.contains(0));
-                Ok(())
-            }
-        }
+        let Err(refusal) = find_pairing(&Relation::new(), &PlaceBag::new(), &right) else {
+            return Err(Fail::new("a pairing was found"));
+        };
+        let (side, places) = refusal.shown();
+        assert!(rt; refusal.number() == 33);
+        assert!(rt; side == Side::Right);
+        assert!(rt; places.contains(3));
+        assert!(rt; !places.contains(0));
+        Ok(())
     }
 }

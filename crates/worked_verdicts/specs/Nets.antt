@@ -1,5 +1,6 @@
 -- The nets of the worked examples. Assumes nothing.
-use Rattle.std.specs.Prelude.{List, [], ◌∷◌, Bool, false, ◌||◌, ℕ, eqb, length, get_or}
+use Rattle.std.specs.Prelude.{List, [], ◌∷◌, Bool, ℕ, eqb, length, get_or}
+use Rattle.std.specs.List.{list_any}
 use Rattle.nets.specs.Meaning.{Meaning}
 use Rattle.bisimulation.specs.Lists.{tokens_of}
 
@@ -15,8 +16,7 @@ nothing = record { label = 0; takes = []; gives = []; inhibited_by = [] }
 
 -- whether a place is in a list
 abbrev pub among : List ℕ → ℕ → Bool
-among [] p = false
-among (x ∷ xs) p = eqb x p || among xs p
+among xs p = list_any (λ x. eqb x p) xs
 
 -- the net of a number of places and a list of transitions
 abbrev pub net_of : ℕ → List Transition → Meaning

@@ -5,6 +5,7 @@
 ghost use Rattle.worked_verdicts.specs.Worked.{WorkedVerdicts};
 
 /// All worked examples of verdicts hold: a theorem.
+#[tactic(auto, using(crate::proofs::Verdicts::worked_verdicts))]
 pub fn worked_verdicts_hold()
     ensures { WorkedVerdicts }
 {}

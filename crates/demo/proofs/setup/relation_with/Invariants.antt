@@ -1,8 +1,0 @@
-use Rattle.std.proofs.Common.{◌≡◌, drop}
-use Rattle.places.specs.Meanings.{relation_of}
-use Rattle.places.specs.Sets.{unrelated}
-use Rattle.demo.specs.Examples.{with_pairs}
-use Rattle.demo.proofs.setup.relation_with.Given as goal
-
-abbrev pub invariant-loop-pair : goal.invariant-loop-pair
-invariant-loop-pair l = with_pairs unrelated l.pairs ≡ with_pairs (relation_of l.relation) (drop l.pair-index l.pairs)
