@@ -1,19 +1,19 @@
 -- Sets that have the same places below 16 have the same places.
-use Rattle.std.proofs.Common.{◌≡◌, ℕ, ◌≤◌, ◌<◌, Bool, true, false, cond, get_or, sym, ap, ◌∙◌, inl, inr, arith}
+use Rattle.std.proofs.Common.{◌≡◌, ℕ, ◌≤◌, ◌<◌, Bool, true, get_or, sym, ap, ◌∙◌, inl, inr, arith}
 use Rattle.std.proofs.Math.Bool.{beq}
-use Rattle.std.proofs.lemmas.Bool.{cases_lt, le-ltb}
+use Rattle.std.proofs.lemmas.Bool.{cases_lt}
 use Rattle.std.proofs.lemmas.List.Elements.{All-get_or, All-from_get_or}
 use Rattle.std.proofs.lemmas.List.FromFn.{length-range_with_len, get_or-range_with_len}
 use Rattle.std.proofs.lemmas.List.Sums.{AllPass-from_list_all, list_all-from_AllPass}
 use Rattle.std.specs.List.{list_all, range_with_len}
 use Rattle.std.specs.Cmp.{booleans_Decides}
+use Rattle.places.specs.Laws.{set_placed}
 use Rattle.places.specs.Meanings.{set_of}
 use Rattle.places.specs.declared.place_set.PlaceSet.{PlaceSet}
 
 -- beyond 15 no set has a place
 past : (a b : PlaceSet) (p : ℕ) → 16 ≤ p → set_of a p ≡ set_of b p
-past a b p l =
-    ap (λ t. cond t (get_or a.flags p false) false) (le-ltb p 16 l) ∙ sym (ap (λ t. cond t (get_or b.flags p false) false) (le-ltb p 16 l))
+past a b p l = set_placed a p l ∙ sym (set_placed b p l)
 
 pub same_sets : (a b : PlaceSet) (r : Bool) → r ≡ list_all (λ p. beq (set_of a p) (set_of b p)) (range_with_len 0 16) → (r ≡ true → (p : ℕ) → set_of a p ≡ set_of b p) × (((p : ℕ) → set_of a p ≡ set_of b p) → r ≡ true)
 same_sets a b r told = (λ e p. elim (cases_lt p 16) [ inl below ↦ at p below (sym told ∙ e) | inr beyond ↦ past a b p beyond ], λ same. told ∙ list_all-from_AllPass agree (range_with_len 0 16) (All-from_get_or (λ p. agree p ≡ true) (range_with_len 0 16) 0 (λ i l. (booleans_Decides _ _).1 (same (get_or (range_with_len 0 16) i 0)))))
