@@ -1,6 +1,13 @@
 //! The examples, with what was worked out by hand.
 use places::{LayRefusal, PlaceBag, Side};
 
+/// A list in which each element stands four times: a constant can call no function.
+macro_rules! four_times {
+    ($($element:expr),* $(,)?) => {
+        [$($element, $element, $element, $element),*]
+    };
+}
+
 /// The refusal of an example: its number, with the side and the places that it shows. A plain number, as it is printed
 /// and as a caller gets it: a constant can make no set of places, so none of the library's refusals.
 #[derive(Clone, Copy, Debug, PartialEq, Eq)]
@@ -56,12 +63,8 @@ const RIGHTS: [&str; 16] = [
 /// The relation of p with u and w, and of q with v and z.
 const K: [(u8, u8); 4] = [(0, 0), (0, 2), (1, 1), (1, 3)];
 
-/// Four tokens on each of the 16 places, written out as the lists below are: a constant can call no function.
-const FOUR_EACH: [u8; 64] = [
-    0, 0, 0, 0, 1, 1, 1, 1, 2, 2, 2, 2, 3, 3, 3, 3, 4, 4, 4, 4, 5, 5, 5, 5, 6, 6, 6, 6, 7, 7, 7, 7,
-    8, 8, 8, 8, 9, 9, 9, 9, 10, 10, 10, 10, 11, 11, 11, 11, 12, 12, 12, 12, 13, 13, 13, 13, 14, 14,
-    14, 14, 15, 15, 15, 15,
-];
+/// Four tokens on each of the 16 places.
+const FOUR_EACH: [u8; 64] = four_times![0, 1, 2, 3, 4, 5, 6, 7, 8, 9, 10, 11, 12, 13, 14, 15];
 
 /// Each place with the place of its own number and the next; the last with the first alone.
 const STEPS: [(u8, u8); 31] = [
@@ -99,70 +102,22 @@ const STEPS: [(u8, u8); 31] = [
 ];
 
 /// The last place can only go to the first, so that each other place has to go to the next.
-const ALL_STEPPED: [(u8, u8); 64] = [
-    (0, 1),
-    (0, 1),
-    (0, 1),
+const ALL_STEPPED: [(u8, u8); 64] = four_times![
     (0, 1),
     (1, 2),
-    (1, 2),
-    (1, 2),
-    (1, 2),
-    (2, 3),
-    (2, 3),
-    (2, 3),
     (2, 3),
     (3, 4),
-    (3, 4),
-    (3, 4),
-    (3, 4),
-    (4, 5),
-    (4, 5),
-    (4, 5),
     (4, 5),
     (5, 6),
-    (5, 6),
-    (5, 6),
-    (5, 6),
-    (6, 7),
-    (6, 7),
-    (6, 7),
     (6, 7),
     (7, 8),
-    (7, 8),
-    (7, 8),
-    (7, 8),
-    (8, 9),
-    (8, 9),
-    (8, 9),
     (8, 9),
     (9, 10),
-    (9, 10),
-    (9, 10),
-    (9, 10),
-    (10, 11),
-    (10, 11),
-    (10, 11),
     (10, 11),
     (11, 12),
-    (11, 12),
-    (11, 12),
-    (11, 12),
-    (12, 13),
-    (12, 13),
-    (12, 13),
     (12, 13),
     (13, 14),
-    (13, 14),
-    (13, 14),
-    (13, 14),
     (14, 15),
-    (14, 15),
-    (14, 15),
-    (14, 15),
-    (15, 0),
-    (15, 0),
-    (15, 0),
     (15, 0),
 ];
 
