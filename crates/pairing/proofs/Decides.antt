@@ -1,6 +1,7 @@
 -- What the answer says decides whether the closure relates the two bags.
-use Rattle.std.proofs.Common.{◌≡◌, ℕ, zero, suc, ◌<◌, ◌≤◌, Bool, true, false, cond, ltb, Ok, Err, Result, sym, refl, ap, ◌∙◌, inl, inr, add-one, arith}
+use Rattle.std.proofs.Common.{◌≡◌, ℕ, zero, suc, ◌<◌, ◌≤◌, Bool, true, false, cond, ltb, Ok, Err, Result, sym, refl, ap, subst, ◌∙◌, inl, inr, add-one, arith}
 use Rattle.std.proofs.lemmas.Bool.{false≢true, cases_lt, lt-ltb, ltb-true, ltb-false}
+use Rattle.std.specs.Result.{IsErrAnd, MatchResult}
 use Rattle.bags.specs.Items.{items}
 use Rattle.bags.specs.declared.sequence.Sequence.{Sequence}
 use Rattle.places.specs.Bags.{Bag}
@@ -68,6 +69,21 @@ fails_equal {R} {m} {n} set zm zn even f = decided R m n (Err (NoPairing (Left, 
   marked = f.marked;
   all_marked = λ odd. absurd (odd even);
 })
+
+-- a set with which the search has failed comes back
+pub fails_as : {R : PlaceRelation} {m n : Bag} (r : Result (Sequence (ℕ × ℕ) 64) PlaceSet) (set : PlaceSet) → IsErrAnd r (λ x. x ≡ set) → Fails R m n (set_of set)
+    → MatchResult r (λ pairs. Pairing R m n (items pairs)) (λ places. Fails R m n (set_of places))
+fails_as (Ok pairs) set e f = absurd e
+fails_as {R} {m} {n} (Err places) set e f = subst (λ s. Fails R m n (set_of s)) (sym e) f
+
+-- the pairing, or the refusal with the set
+pub decided_as : {R : PlaceRelation} {m n : Bag} (r : Result (Sequence (ℕ × ℕ) 64) PlaceSet) (s : Result (Sequence (ℕ × ℕ) 64) PairingRefusal) → Placed m → Placed n → size m ≡ size n
+    → MatchResult r (λ pairs. Pairing R m n (items pairs)) (λ places. Fails R m n (set_of places))
+    → MatchResult r (λ pairs. s ≡ Ok pairs) (λ places. IsErrAnd s (λ refusal. refusal ≡ NoPairing (Left, places)))
+    → Decided R m n s
+decided_as {R} {m} {n} (Ok pairs) s zm zn even h e = subst (λ t. Decided R m n t) (sym e) (found pairs zm zn h)
+decided_as {R} {m} {n} (Err places) (Ok pairs) zm zn even h e = absurd e
+decided_as {R} {m} {n} (Err places) (Err refusal) zm zn even h e = subst (λ t. Decided R m n (Err t)) (sym e) (fails_equal places zm zn even h)
 
 -- the larger bag shows all its marked places
 pub fails_left : {R : PlaceRelation} {m n : Bag} (set : PlaceSet) → Placed m → Placed n → size n < size m → ((p : ℕ) → set_of set p ≡ ltb 0 (m p)) → Decided R m n (Err (NoPairing (Left, set)))

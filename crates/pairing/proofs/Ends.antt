@@ -1,13 +1,13 @@
 -- The two ends of the search: all tokens are paired, or a set outnumbers the places related to it.
-use Rattle.std.proofs.Common.{◌≡◌, ℕ, suc, ◌+◌, ◌<◌, ◌≤◌, Bool, true, false, cond, ◌&&◌, T, eqb, List, [], ◌∷◌, length, sym, refl, ap, ◌∙◌, subst, inl, inr, arith}
-use Rattle.std.proofs.lemmas.Bool.{cases_lt, and_parts}
+use Rattle.std.proofs.Common.{◌≡◌, ◌≢◌, ◌⊎◌, ℕ, suc, ◌+◌, ◌-◌, ◌<◌, ◌≤◌, Bool, true, false, cond, ◌&&◌, T, eqb, List, [], ◌∷◌, length, sym, refl, ap, ◌∙◌, subst, inl, inr, arith}
+use Rattle.std.proofs.lemmas.Bool.{cases_eq, cases_lt, and_parts, eq-eqb, ne_eqb}
 use Rattle.std.proofs.lemmas.List.Sums.{sum_by-cons, get_or-le-sum_by}
-use Rattle.places.specs.Bags.{Bag, single, ◌⊕◌, ◌⊖◌}
+use Rattle.places.specs.Bags.{Bag, single, ◌⊕◌}
 use Rattle.places.specs.Sets.{Subset, PlaceRelation, everywhere, tokens_on, size, Placed}
-use Rattle.places.specs.Laws.{single_le, single_same, tokens_empty, tokens_sum, tokens_le, tokens_at}
+use Rattle.places.specs.Laws.{single_same, tokens_empty, tokens_sum, tokens_le, tokens_at}
 use Rattle.pairing.specs.Closure.{lefts, rights, AllIn, Pairing}
 use Rattle.pairing.specs.Outnumbering.{beside, Outnumbers}
-use Rattle.pairing.specs.Search.{starts, ends, left_end, right_end, Blocked, Going, Reached}
+use Rattle.pairing.specs.Search.{starts, ends, left_end, right_end, unpaired, Held, Blocked, Going, Reached, PairedBelow, PairedOf, ShortOf, Fails}
 use Rattle.pairing.specs.Laws.{some_is}
 use Rattle.pairing.proofs.Counting.{carry}
 use Rattle.pairing.proofs.Steps.{PlacedOn}
@@ -96,21 +96,32 @@ length_counts : (xs : List (ℕ × ℕ)) → ((k : ℕ) → k < length xs → le
 length_counts [] l = omega arith
 length_counts (x ∷ xs) l = omega (arith, tokens_sum 16 everywhere (single x.0) (lefts xs), tokens_at 16 everywhere (single x.0) x.0 (l 0 (omega arith)) refl, single_same x.0, length_counts xs (λ k e. l (suc k) (omega arith)))
 
--- while a token is left, there is room for a pair
-pub short_of : {R : PlaceRelation} {m n : Bag} {xs : List (ℕ × ℕ)} {p : ℕ} {rest free : Bag} → size m ≤ 64 → Going R m n xs rest free p → p < 16 → 0 < rest p → length xs < 64
-short_of {R} {m} {n} {xs} {p} {rest} {free} few g l some = omega (arith, few, length_counts xs g.held.low, tokens_sum 16 everywhere (lefts xs) rest, tokens_at 16 everywhere rest p l refl, sum)
+-- there is room for pairs of all tokens of p
+pub room_for : {R : PlaceRelation} {m n : Bag} {xs : List (ℕ × ℕ)} {p : ℕ} {rest free : Bag} → size m ≤ 64 → Going R m n xs rest free p → p < 16 → length xs + rest p ≤ 64
+room_for {R} {m} {n} {xs} {p} {rest} {free} few g l = omega (arith, few, length_counts xs g.held.low, tokens_sum 16 everywhere (lefts xs) rest, tokens_at 16 everywhere rest p l refl, sum)
   where
     sum : size (lefts xs ⊕ rest) ≤ size m
     sum = tokens_le 16 everywhere everywhere (lefts xs ⊕ rest) m (λ i l. omega (arith, lefts_are xs i, g.lefts_and_rest i))
 
--- one token of p more is paired
-pub going_on : {R : PlaceRelation} {m n : Bag} {xs ys : List (ℕ × ℕ)} {p : ℕ} {rest free left : Bag} → 0 < rest p → Going R m n xs rest free p → PlacedOn R xs free p ys left → Going R m n ys (rest ⊖ single p) left p
-going_on {R} {m} {n} {xs} {ys} {p} {rest} {free} {left} some g a = record {
+-- no token of p was paired yet; one more is
+pub paired_none : {R : PlaceRelation} {xs : List (ℕ × ℕ)} {free : Bag} {p : ℕ} → Held R xs → PairedOf R xs free p 0 xs free
+paired_none {R} {xs} {free} {p} h = record { held = h; longer = omega arith; starts_more = λ k. omega (arith, none (eqb p k)); sums = λ r. refl }
+  where
+    none : (b : Bool) → ◌≡◌ {A = ℕ} (cond b 0 0) 0
+    none true = refl
+    none false = refl
+
+pub paired_more : {R : PlaceRelation} {xs ys zs : List (ℕ × ℕ)} {free left more : Bag} {p k : ℕ} → PairedOf R xs free p k ys left → PlacedOn R ys left p zs more → PairedOf R xs free p (k + 1) zs more
+paired_more {R} {xs} {ys} {zs} {free} {left} {more} {p} {k} h a = record {
   held = a.held;
-  lefts_and_rest = λ k. omega (arith, a.starts_more k, single_le rest p k some, g.lefts_and_rest k);
-  rights_and_free = λ k. a.sums k ∙ g.rights_and_free k;
-  done = λ k l. omega (arith, g.done k l);
+  longer = omega (arith, h.longer, a.one_more);
+  starts_more = λ i. omega (arith, h.starts_more i, a.starts_more i, one (eqb p i));
+  sums = λ r. a.sums r ∙ h.sums r;
 }
+  where
+    one : (b : Bool) → cond b k 0 + cond b 1 0 ≡ cond b (k + 1) 0
+    one true = refl
+    one false = refl
 
 -- p has no token left
 pub going_next : {R : PlaceRelation} {m n : Bag} {xs : List (ℕ × ℕ)} {p : ℕ} {rest free : Bag} → rest p ≡ 0 → Going R m n xs rest free p → Going R m n xs rest free (p + 1)
@@ -124,11 +135,50 @@ going_next {R} {m} {n} {xs} {p} {rest} {free} none g = record {
     same : (k : ℕ) → k < p + 1 → p ≤ k → k ≡ p
     same k l h = omega arith
 
+-- the tokens below p are paired, and some of those of p
+paired_part : {R : PlaceRelation} {m n : Bag} {xs ys : List (ℕ × ℕ)} {free left : Bag} {p k : ℕ} → PairedBelow R m n xs free p → PairedOf R xs free p k ys left → k ≤ m p → Going R m n ys (unpaired m ys) left p
+paired_part {R} {m} {n} {xs} {ys} {free} {left} {p} {k} h a l = record {
+  held = a.held;
+  lefts_and_rest = λ i. omega (arith, most i (cases_eq p i));
+  rights_and_free = λ i. a.sums i ∙ h.going.rights_and_free i;
+  done = λ i below. omega (arith, a.starts_more i, h.going.done i below);
+}
+  where
+    most : (i : ℕ) → (p ≡ i) ⊎ (p ≢ i) → starts ys i ≤ m i
+    most i (inl e) = omega (arith, a.starts_more i, h.none i (omega (arith, e)), ap m e, ap (λ b. cond b k 0) (eq-eqb p i e))
+    most i (inr e) = omega (arith, a.starts_more i, h.going.lefts_and_rest i, ap (λ b. cond b k 0) (ne_eqb p i e))
+
+pub paired_below : {R : PlaceRelation} {m n : Bag} {xs ys : List (ℕ × ℕ)} {free left : Bag} {p : ℕ} → PairedBelow R m n xs free p → PairedOf R xs free p (m p) ys left → PairedBelow R m n ys left (p + 1)
+paired_below {R} {m} {n} {xs} {ys} {free} {left} {p} h a = record {
+  going = going_next all (paired_part h a (omega arith));
+  none = λ k l. omega (arith, a.starts_more k, h.none k (omega arith), ap (λ b. cond b (m p) 0) (ne_eqb p k (λ e. omega arith)));
+}
+  where
+    all : m p - starts ys p ≡ 0
+    all = omega (arith, a.starts_more p, ap (λ b. cond b (m p) 0) (eq-eqb p p refl))
+
+-- a token of p is left, and no token could be made free for it
+pub fails_short : {R : PlaceRelation} {m n : Bag} {xs : List (ℕ × ℕ)} {free : Bag} {p : ℕ} {S : Subset} → p < 16 → PairedBelow R m n xs free p → ShortOf R xs free p (m p) S → Fails R m n S
+fails_short {R} {m} {n} {xs} {free} {p} {S} l h a = record {
+  outnumbers = outnumbered S part l some a.in_vain.blocked a.in_vain.reached;
+  some_place = (p, a.in_vain.reached.start);
+  marked = reached_marked S part some a.in_vain.reached;
+}
+  where
+    part : Going R m n a.pairs_then (unpaired m a.pairs_then) a.free_then p
+    part = paired_part h a.paired (omega (arith, a.fewer))
+
+    some : 0 < m p - starts a.pairs_then p
+    some = omega (arith, a.fewer, a.paired.starts_more p, h.none p (omega arith), ap (λ b. cond b a.made 0) (eq-eqb p p refl))
+
 -- nothing is paired yet
-pub going_none : {R : PlaceRelation} (m n : Bag) → Going R m n [] m n 0
-going_none m n = record {
-  held = record { low = λ j l. absurd (omega arith); high = λ j l. absurd (omega arith); fits = λ j l. absurd (omega arith) };
-  lefts_and_rest = λ k. omega arith;
-  rights_and_free = λ k. omega arith;
-  done = λ k l. absurd (omega arith);
+pub below_none : {R : PlaceRelation} (m n : Bag) → PairedBelow R m n [] n 0
+below_none m n = record {
+  going = record {
+    held = record { low = λ j l. absurd (omega arith); high = λ j l. absurd (omega arith); fits = λ j l. absurd (omega arith) };
+    lefts_and_rest = λ k. omega arith;
+    rights_and_free = λ k. omega arith;
+    done = λ k l. absurd (omega arith);
+  };
+  none = λ k l. refl;
 }

@@ -1,6 +1,6 @@
 -- What the search for a pairing knows while it works. Assumes nothing.
 -- xs are the pairs made so far, free the right tokens that are in no pair, seen the right places that were tried.
-use Rattle.std.specs.Prelude.{◌≡◌, ℕ, ◌+◌, ◌<◌, ◌≤◌, true, false, cond, ◌⊎◌, List, [], ◌∷◌, ◌++◌, length, get_or, count_by, ◌≢◌, nat_eq, slice_index_or}
+use Rattle.std.specs.Prelude.{◌≡◌, ℕ, ◌+◌, ◌-◌, ◌<◌, ◌≤◌, true, false, cond, ◌⊎◌, List, [], ◌∷◌, ◌++◌, length, get_or, count_by, ◌≢◌, nat_eq, slice_index_or}
 use Rattle.places.specs.Bags.{Bag, single, ◌⊖◌}
 use Rattle.places.specs.Sets.{Subset, PlaceRelation, nowhere, size}
 use Rattle.pairing.specs.Outnumbering.{Outnumbers}
@@ -110,6 +110,39 @@ pub record Reached (xs : List (ℕ × ℕ)) (seen : Subset) (p n : ℕ) (S : Sub
   pub start : S p ≡ true
   pub ends_seen : (k : ℕ) → k < n → seen (right_end xs k) ≡ true → S (left_end xs k) ≡ true
   pub only : (i : ℕ) → S i ≡ true → (i ≡ p) ⊎ ((k : ℕ) × ((k < n) × (seen (right_end xs k) ≡ true) × (left_end xs k ≡ i)))
+
+-- no token could be made free for p: nothing was moved, and S are the left places that were reached on the way
+pub record InVain (R : PlaceRelation) (xs : List (ℕ × ℕ)) (free : Bag) (p : ℕ) (ys : List (ℕ × ℕ)) (left : Bag) (S : Subset) : Type 0 where
+  pub seen : Subset
+  pub blocked : Blocked R xs free p 16 ys left seen
+  pub reached : Reached xs seen p (length xs) S
+
+-- so many pairs more, all of them with the left end p
+pub record PairedOf (R : PlaceRelation) (xs : List (ℕ × ℕ)) (free : Bag) (p times : ℕ) (ys : List (ℕ × ℕ)) (left : Bag) : Type 0 where
+  pub held : Held R ys
+  pub longer : length ys ≡ length xs + times
+  pub starts_more : (k : ℕ) → starts ys k ≡ starts xs k + cond (nat_eq p k) times 0
+  pub sums : (r : ℕ) → ends ys r + left r ≡ ends xs r + free r
+
+-- fewer pairs than so many were made, and then no token could be made free for p
+pub record ShortOf (R : PlaceRelation) (xs : List (ℕ × ℕ)) (free : Bag) (p times : ℕ) (S : Subset) : Type 0 where
+  pub made : ℕ
+  pub fewer : made < times
+  pub pairs_then : List (ℕ × ℕ)
+  pub free_then : Bag
+  pub paired : PairedOf R xs free p made pairs_then free_then
+  pub pairs_left : List (ℕ × ℕ)
+  pub free_left : Bag
+  pub in_vain : InVain R pairs_then free_then p pairs_left free_left S
+
+-- the tokens of m that no pair of xs starts at
+abbrev pub unpaired : Bag → List (ℕ × ℕ) → Bag
+unpaired m xs k = m k - starts xs k
+
+-- all tokens of m on the places below p are paired, and no others
+pub record PairedBelow (R : PlaceRelation) (m n : Bag) (xs : List (ℕ × ℕ)) (free : Bag) (p : ℕ) : Type 0 where
+  pub going : Going R m n xs (unpaired m xs) free p
+  pub none : (k : ℕ) → p ≤ k → starts xs k ≡ 0
 
 -- the search has failed at a set of left places: it outnumbers the places related to it, is not empty, and has only
 -- places that hold a token of m

@@ -7,7 +7,9 @@ ghost use Rattle.std.specs.Prelude.{◌≡◌, ℕ, ◌+◌, ◌-◌, ◌<◌, �
 ghost use Rattle.bags.specs.Items.{items};
 ghost use Rattle.pairing.specs.Answers.{Decided, LargerOn};
 ghost use Rattle.pairing.specs.Closure.{Pairing};
-ghost use Rattle.pairing.specs.Search.{left_end, unseen, Held, NoHolder, Holder, Opened, Shut, Trying, Blocked, Room, Added, Reached, Fails};
+ghost use Rattle.pairing.specs.declared.PairingRefusal.TheVariants.{NoPairing};
+ghost use Rattle.places.specs.declared.Side.TheVariants.{Left};
+ghost use Rattle.pairing.specs.Search.{left_end, unseen, Held, NoHolder, Holder, Opened, Shut, Trying, InVain, Room, Added, PairedOf, ShortOf, Reached, Fails};
 ghost use Rattle.places.specs.Bags.{single, ◌⊕◌, ◌⊖◌};
 ghost use Rattle.places.specs.Meanings.{bag_of, relation_of, set_of};
 ghost use Rattle.places.specs.Sets.{size};
@@ -104,15 +106,32 @@ fn reopen(
     false
 }
 
-/// Makes a token free on some right place that is related to `p`; or else gives the places seen on the way.
+/// The left places that a search from `p` reached: `p`, and the left ends of the pairs that end at seen places.
+fn reached(pairs: &[(u8, u8)], seen: &PlaceSet, p: u8) -> PlaceSet
+    requires low { p < 16 }
+    requires lows { (k : ℕ) → k < length pairs.now → left_end pairs.now k < 16 }
+    ensures { Reached pairs.now (set_of seen.now) p (length pairs.now) (set_of result) }
+{
+    let mut places = PlaceSet::new();
+    places.insert(p);
+    for (left, right) in pairs {
+        if seen.contains(*right) {
+            places.insert(*left);
+        }
+    }
+    places
+}
+
+/// Makes a token free on some right place that is related to `p`; or else gives the left places reached on the way.
 fn place(
     relation: &Relation,
     pairs: &mut Sequence<(u8, u8), 64>,
     free: &mut PlaceBag,
     p: u8,
 ) -> Result<u8, PlaceSet>
+    requires low { p < 16 }
     requires held { Held (relation_of relation.now) (items pairs.old) }
-    ensures { MatchResult result (λ q. Room (relation_of relation.now) (items pairs.old) (bag_of free.old) p q (items pairs.new) (bag_of free.new)) (λ seen. Blocked (relation_of relation.now) (items pairs.old) (bag_of free.old) p 16 (items pairs.new) (bag_of free.new) (set_of seen)) }
+    ensures { MatchResult result (λ q. Room (relation_of relation.now) (items pairs.old) (bag_of free.old) p q (items pairs.new) (bag_of free.new)) (λ places. InVain (relation_of relation.now) (items pairs.old) (bag_of free.old) p (items pairs.new) (bag_of free.new) (set_of places)) }
 {
     let mut seen = PlaceSet::new();
     for q in 0..16u8 {
@@ -122,7 +141,7 @@ fn place(
             }
         }
     }
-    Err(seen)
+    Err(reached(pairs.as_slice(), &seen, p))
 }
 
 /// Adds a pair at the end.
@@ -143,7 +162,7 @@ fn place_next(
     requires low { p < 16 }
     requires room { length (items pairs.old) < 64 }
     requires held { Held (relation_of relation.now) (items pairs.old) }
-    ensures { MatchResult result (λ _. Added (relation_of relation.now) (items pairs.old) (bag_of free.old) p (items pairs.new) (bag_of free.new)) (λ seen. Blocked (relation_of relation.now) (items pairs.old) (bag_of free.old) p 16 (items pairs.new) (bag_of free.new) (set_of seen)) }
+    ensures { MatchResult result (λ _. Added (relation_of relation.now) (items pairs.old) (bag_of free.old) p (items pairs.new) (bag_of free.new)) (λ places. InVain (relation_of relation.now) (items pairs.old) (bag_of free.old) p (items pairs.new) (bag_of free.new) (set_of places)) }
 {
     let q = place(relation, pairs, free, p)?;
     append(pairs, (p, q));
@@ -151,23 +170,50 @@ fn place_next(
     Ok(())
 }
 
-/// The left places that a search from `p` reached: `p`, and the left ends of the pairs that end at seen places.
-fn reached(pairs: &[(u8, u8)], seen: &PlaceSet, p: u8) -> PlaceSet
+/// Pairs as many tokens of the left place `p` as `times` says, or else gives the left places reached in vain.
+fn place_all(
+    relation: &Relation,
+    pairs: &mut Sequence<(u8, u8), 64>,
+    free: &mut PlaceBag,
+    p: u8,
+    times: u8,
+) -> Result<(), PlaceSet>
     requires low { p < 16 }
-    requires lows { (k : ℕ) → k < length pairs.now → left_end pairs.now k < 16 }
-    ensures { Reached pairs.now (set_of seen.now) p (length pairs.now) (set_of result) }
+    requires room { length (items pairs.old) + times ≤ 64 }
+    requires held { Held (relation_of relation.now) (items pairs.old) }
+    ensures { MatchResult result (λ _. PairedOf (relation_of relation.now) (items pairs.old) (bag_of free.old) p times (items pairs.new) (bag_of free.new)) (λ places. ShortOf (relation_of relation.now) (items pairs.old) (bag_of free.old) p times (set_of places)) }
 {
-    let mut places = PlaceSet::new();
-    places.insert(p);
-    for (left, right) in pairs {
-        if seen.contains(*right) {
-            places.insert(*left);
-        }
+    for _ in 0..times {
+        place_next(relation, pairs, free, p)?;
     }
-    places
+    Ok(())
 }
 
-/// Pairs two bags of one size, or else shows a set of left places that outnumbers the places related to it.
+/// Pairs two bags of one size, or else gives a set of left places that outnumbers the places related to it.
+fn pair_equal(
+    relation: &Relation,
+    left: &PlaceBag,
+    right: &PlaceBag,
+) -> Result<Sequence<(u8, u8), 64>, PlaceSet>
+    requires { size (bag_of left.now) ≡ size (bag_of right.now) }
+    ensures { MatchResult result (λ pairs. Pairing (relation_of relation.now) (bag_of left.now) (bag_of right.now) (items pairs)) (λ places. Fails (relation_of relation.now) (bag_of left.now) (bag_of right.now) (set_of places)) }
+{
+    let mut pairs = Sequence::new();
+    let mut free = *right;
+    for p in 0..16u8 {
+        place_all(relation, &mut pairs, &mut free, p, left.count(p))?;
+    }
+    Ok(pairs)
+}
+
+/// The refusal that shows a set of left places.
+fn shown_left(places: PlaceSet) -> PairingRefusal
+    ensures { result ≡ NoPairing (Left, places) }
+{
+    PairingRefusal::NoPairing((Side::Left, places))
+}
+
+/// Pairs two bags of one size, or else shows a set of left places.
 pub(crate) fn decide_equal(
     relation: &Relation,
     left: &PlaceBag,
@@ -176,19 +222,7 @@ pub(crate) fn decide_equal(
     requires { size (bag_of left.now) ≡ size (bag_of right.now) }
     ensures { Decided (relation_of relation.now) (bag_of left.now) (bag_of right.now) result }
 {
-    let mut pairs = Sequence::new();
-    let mut rest = *left;
-    let mut free = *right;
-    for p in 0..16u8 {
-        for _ in 0..rest.count(p) {
-            if let Err(seen) = place_next(relation, &mut pairs, &mut free, p) {
-                let places = reached(pairs.as_slice(), &seen, p);
-                return Err(PairingRefusal::NoPairing((Side::Left, places)));
-            }
-            let _ = rest.take(p);
-        }
-    }
-    Ok(pairs)
+    pair_equal(relation, left, right).map_err(shown_left)
 }
 
 /// The places that hold a token.
