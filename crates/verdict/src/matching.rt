@@ -35,6 +35,7 @@ pub(crate) fn completes(half: &Half, tokens: ShortList, chosen: &[u8], from: u8)
     let [place, later @ ..] = chosen else {
         return all_above(&half.tops, tokens.as_slice(), from);
     };
+    // A loop and no `any`: the borrow checker does not cover a function that calls itself from a closure.
     for token in tokens.as_slice() {
         if half.pairs.relates(*token, *place)
             && completes(half, without(tokens, *token), later, from)
