@@ -3,6 +3,8 @@
 //!
 //! The relation, the pairs and the free tokens are three parameters: a struct would hold the relation too, and each
 //! function that changes it would have to say that the relation stays, where it now asks that the pairs are in it.
+//! Places are plain numbers here, as they are to the caller: that one is below 16 is asked where a set or a pair is made
+//! of it, and a type that says so would be made and taken apart at each call.
 ghost use Rattle.std.specs.Prelude.{◌≡◌, ℕ, ◌+◌, ◌-◌, ◌<◌, ◌≤◌, true, false, [], ◌∷◌, ◌++◌, length, set, Err, MatchBool, MatchOption, MatchResult, nat_lt, slice_set};
 ghost use Rattle.bags.specs.Items.{items};
 ghost use Rattle.pairing.specs.Answers.{Decided, LargerOn};
