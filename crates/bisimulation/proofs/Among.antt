@@ -5,7 +5,8 @@ use Rattle.std.proofs.Common.{◌≡◌, ℕ, zero, suc, ◌<◌, Bool, true, fa
 use Rattle.std.proofs.lemmas.List.Folds.{find-append, list_all-append}
 use Rattle.pairing.specs.Laws.{range_to}
 use Rattle.std.proofs.lemmas.Bool.{cases_eq, cases_Bool, cond-true, cond-false, and_parts, and_from}
-use Rattle.bisimulation.specs.Verdicts.{keep, all_below, lowest_below, open_or, first_open}
+use Rattle.bisimulation.specs.Laws.{open_or}
+use Rattle.bisimulation.specs.Verdicts.{keep, all_below, lowest_below, first_open}
 
 -- x is an element of the list
 abbrev pub In : {X : Type 0} → X → List X → Type 0

@@ -1,6 +1,6 @@
 -- The verdict, computed: all obligations in order, the answer to each, and the first that has none. Assumes nothing.
-use Rattle.std.specs.Prelude.{ℕ, zero, suc, Bool, true, false, cond, not, ◌&&◌, ◌||◌, List, [], ◌∷◌, ◌++◌, map, length, Some, None, Option, ◌==◌, nat_lt}
-use Rattle.std.specs.List.{find, list_all, range_with_len}
+use Rattle.std.specs.Prelude.{ℕ, zero, suc, Bool, true, false, cond, not, ◌&&◌, ◌||◌, List, [], ◌∷◌, ◌++◌, map, length, Some, None, Option, is_some, ◌==◌, nat_lt}
+use Rattle.std.specs.List.{filter, find, list_all, range_with_len}
 use Rattle.places.specs.Sets.{PlaceRelation, turned}
 use Rattle.places.specs.declared.Side.{Side}
 use Rattle.places.specs.declared.Side.TheVariants.{Left, Right}
@@ -12,8 +12,7 @@ use Rattle.bisimulation.specs.Lists.{list_of, same_list, related_lists, lists}
 
 -- the elements that pass a test, in order
 abbrev pub keep : {X : Type 0} → (X → Bool) → List X → List X
-keep f [] = []
-keep f (x ∷ xs) = cond (f x) (x ∷ keep f xs) (keep f xs)
+keep f xs = filter f xs
 
 -- whether a test passes at every number below k
 abbrev pub all_below : (ℕ → Bool) → ℕ → Bool
@@ -82,15 +81,9 @@ answer_on n k R Right t ys = answer_for k n (turned R) t ys
 abbrev pub answer_to : Meaning → Meaning → PlaceRelation → ObligationAt → Option ℕ
 answer_to n k R o = answer_on n k R o.side o.transition o.bag
 
--- x where it has no answer, and else what comes later
-abbrev pub open_or : {X : Type 0} → Option ℕ → X → Option X → Option X
-open_or (Some u) x later = later
-open_or None x later = Some x
-
 -- the first that has no answer
 abbrev pub first_open : {X : Type 0} → (X → Option ℕ) → List X → Option X
-first_open f [] = None
-first_open f (x ∷ xs) = open_or (f x) x (first_open f xs)
+first_open f xs = find (λ x. not (is_some (f x))) xs
 
 -- accepted with the number of obligations, or refused with the first that has no answer
 pub data Verdict : Type 0 where

@@ -6,7 +6,8 @@ use Rattle.places.specs.Sets.{PlaceRelation}
 use Rattle.places.specs.declared.Side.{Side}
 use Rattle.nets.specs.Meaning.{Meaning}
 use Rattle.bisimulation.specs.Lists.{is_nil, related_lists, lists_from, lists}
-use Rattle.bisimulation.specs.Verdicts.{keep, takes, self_blocked, obliges, answers, lowest_below, answer_for, bags_for, ObligationAt, obligations_below, open_or, first_open}
+use Rattle.bisimulation.specs.Laws.{open_or}
+use Rattle.bisimulation.specs.Verdicts.{keep, takes, self_blocked, obliges, answers, lowest_below, answer_for, bags_for, ObligationAt, obligations_below, first_open}
 use Rattle.verdict.specs.Results.{obligation_at, at, JudgedBelow}
 use Rattle.verdict.specs.Search.{bags_after, bags_of, mover_of, other_of, related_by, Passed, JudgedFor}
 use Rattle.verdict.specs.declared.job.Job.{Job}

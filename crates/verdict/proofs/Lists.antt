@@ -7,7 +7,8 @@ use Rattle.places.specs.declared.Side.{Side}
 use Rattle.places.specs.declared.Side.TheVariants.{Left, Right}
 use Rattle.nets.specs.Meaning.{Meaning}
 use Rattle.bisimulation.specs.Bisimulation.{between}
-use Rattle.bisimulation.specs.Verdicts.{answer_for, bags_for, ObligationAt, obligations_below, obligations, answer_to, open_or, first_open}
+use Rattle.bisimulation.specs.Laws.{open_or}
+use Rattle.bisimulation.specs.Verdicts.{answer_for, bags_for, ObligationAt, obligations_below, obligations, answer_to, first_open}
 use Rattle.verdict.specs.Results.{at, answered_at, Wrote, with_answers, WroteBelow, ListsAnswers}
 use Rattle.verdict.specs.declared.obligation.ListRefusal.TheVariants.{TooFew}
 use Rattle.verdict.specs.Search.{Passed}

@@ -7,7 +7,8 @@ use Rattle.places.specs.Sets.{PlaceRelation}
 use Rattle.pairing.specs.Laws.{moved}
 use Rattle.nets.specs.Meaning.{Meaning}
 use Rattle.bisimulation.specs.Lists.{tokens_of, related_lists, lists_from}
-use Rattle.bisimulation.specs.Verdicts.{keep, takes, self_blocked, obliges, answers, lowest_below, answer_for, open_or, first_open}
+use Rattle.bisimulation.specs.Laws.{open_or}
+use Rattle.bisimulation.specs.Verdicts.{keep, takes, self_blocked, obliges, answers, lowest_below, answer_for, first_open}
 use Rattle.bisimulation.specs.Related.{tests}
 use Rattle.bisimulation.specs.Spelled.{one_length}
 use Rattle.verdict.specs.PlaceLists.{places_in}

@@ -2,11 +2,10 @@
 use Rattle.std.proofs.Common.{◌≡◌, ℕ, suc, ◌+◌, true, List, [], ◌∷◌, ◌++◌, length, set, Option, sym, refl, ap, ◌∙◌, subst, arith}
 use Rattle.std.proofs.lemmas.List.{length-set}
 use Rattle.bisimulation.specs.Verdicts.{obliges, answers, lowest_below, ObligationAt}
-use Rattle.verdict.specs.Results.{at, Wrote}
+use Rattle.verdict.specs.Results.{at, obligation_at, Wrote}
 use Rattle.verdict.specs.Entries.{entry}
 use Rattle.verdict.specs.Search.{mover_of, other_of, related_by}
-use Rattle.verdict.specs.PlaceLists.{places_in}
-use Rattle.verdict.specs.declared.place_list.PlaceList.{PlaceList}
+use Rattle.verdict.specs.declared.obligation.Obligation.{Obligation}
 use Rattle.verdict.specs.declared.job.Job.{Job}
 use Rattle.verdict.specs.declared.obligation.AnsweredObligation.{AnsweredObligation}
 use Rattle.verdict.proofs.Walks.{answer_is}
@@ -15,10 +14,10 @@ pub wrote_on : (i : ℕ) (xs ys zs : List AnsweredObligation) (es fs : List (Obl
 wrote_on i xs ys zs [] fs a b = let none : i + 0 ≡ i = omega arith in subst (λ k. Wrote k xs fs zs) none (subst (λ l. Wrote (i + 0) l fs zs) a b)
 wrote_on i xs ys zs (e ∷ es) fs a b = let on : i + suc (length es) ≡ i + 1 + length es = omega arith in (a.0, (a.1.0, wrote_on (i + 1) (set xs i a.0) ys zs es fs a.1.1 (subst (λ k. Wrote k ys fs zs) on b)))
 
-pub wrote_one : (j : Job) (i : ℕ) (ys : List ℕ) (bag : PlaceList) (r : Option ℕ) (xs : List AnsweredObligation) → obliges (mover_of j) (related_by j) j.t ys ≡ true → places_in bag ≡ ys → r ≡ lowest_below (answers (mover_of j) (other_of j) (related_by j) j.t ys) (other_of j).transitions → Wrote i xs (entry j ys ∷ []) (set xs i (record { obligation = record { side = j.half.now.side; transition = j.t; bag = bag }; answer = r }))
-wrote_one j i ys bag r xs known e h = (
-  record { obligation = record { side = j.half.now.side; transition = j.t; bag = bag }; answer = r },
-  (ap (λ zs. (at j.half.now.side j.t zs, r)) e ∙ ap (λ v. (at j.half.now.side j.t ys, v)) (sym (answer_is (mover_of j) (other_of j) (related_by j) j.t ys r known h)), refl),
+pub wrote_one : (j : Job) (i : ℕ) (ys : List ℕ) (o : Obligation) (r : Option ℕ) (xs : List AnsweredObligation) → obliges (mover_of j) (related_by j) j.t ys ≡ true → obligation_at o ≡ at j.half.now.side j.t ys → r ≡ lowest_below (answers (mover_of j) (other_of j) (related_by j) j.t ys) (other_of j).transitions → Wrote i xs (entry j ys ∷ []) (set xs i (record { obligation = o; answer = r }))
+wrote_one j i ys o r xs known e h = (
+  record { obligation = o; answer = r },
+  (ap (λ w. (w, r)) e ∙ ap (λ v. (at j.half.now.side j.t ys, v)) (sym (answer_is (mover_of j) (other_of j) (related_by j) j.t ys r known h)), refl),
 )
 
 -- the length stays

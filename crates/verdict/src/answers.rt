@@ -4,12 +4,10 @@ ghost use Rattle.bisimulation.specs.Lists.{same_list};
 ghost use Rattle.bisimulation.specs.Verdicts.{alike, all_below, answers, lowest_below, same_truth, self_blocked};
 ghost use Rattle.nets.specs.Firing.{pre_set};
 ghost use Rattle.nets.specs.Tables.{table_meaning};
-ghost use Rattle.verdict.specs.Relating.{pairs_of};
 ghost use Rattle.verdict.specs.Search.{mover_of, other_of, related_by};
 
 use crate::job::Job;
 use crate::matching::related;
-use crate::pairs::Pairs;
 use nets::{Net, Table};
 
 /// Whether a place is an input of the transition and also inhibits it.
@@ -27,24 +25,25 @@ pub(crate) fn is_blocked(net: &Table, t: u8) -> bool
 }
 
 /// Whether two places that are related both inhibit, or neither does.
-fn alike_at(mover: &Table, other: &Table, pairs: &Pairs, t: u8, u: u8, p: u8, q: u8) -> bool
-    ensures { result ≡ (not (pairs_of pairs.now p q) || same_truth ((table_meaning mover.now).inhibits t p) ((table_meaning other.now).inhibits u q)) }
+fn alike_at(job: &Job, u: u8, p: u8, q: u8) -> bool
+    ensures { result ≡ (not (related_by job.now p q) || same_truth ((mover_of job.now).inhibits job.now.t p) ((other_of job.now).inhibits u q)) }
 {
-    !pairs.relates(p, q) || mover.inhibits(t, p) == other.inhibits(u, q)
+    let half = job.half;
+    !half.pairs.relates(p, q) || half.mover.inhibits(job.t, p) == half.other.inhibits(u, q)
 }
 
 /// The same for one place of the mover and all places of the other net.
-fn row_alike(mover: &Table, other: &Table, pairs: &Pairs, t: u8, u: u8, p: u8) -> bool
-    ensures { result ≡ all_below (λ q. not (pairs_of pairs.now p q) || same_truth ((table_meaning mover.now).inhibits t p) ((table_meaning other.now).inhibits u q)) (table_meaning other.now).places }
+fn row_alike(job: &Job, u: u8, p: u8) -> bool
+    ensures { result ≡ all_below (λ q. not (related_by job.now p q) || same_truth ((mover_of job.now).inhibits job.now.t p) ((other_of job.now).inhibits u q)) (other_of job.now).places }
 {
-    (0..other.places()).all(|q| alike_at(mover, other, pairs, t, u, p, q))
+    (0..job.half.other.places()).all(|q| alike_at(job, u, p, q))
 }
 
-/// Whether the inhibitors of two transitions are alike.
-fn is_alike(mover: &Table, other: &Table, pairs: &Pairs, t: u8, u: u8) -> bool
-    ensures { result ≡ alike (table_meaning mover.now) (table_meaning other.now) (pairs_of pairs.now) t u }
+/// Whether the inhibitors of the job's transition and of one of the other net are alike.
+fn is_alike(job: &Job, u: u8) -> bool
+    ensures { result ≡ alike (mover_of job.now) (other_of job.now) (related_by job.now) job.now.t u }
 {
-    (0..mover.places()).all(|p| row_alike(mover, other, pairs, t, u, p))
+    (0..job.half.mover.places()).all(|p| row_alike(job, u, p))
 }
 
 /// Whether two lists are the same.
@@ -64,7 +63,7 @@ fn answers_with(job: &Job, ys: &[u8], u: u8) -> bool
     is_same(flows.takes.as_slice(), ys)
         && half.mover.label(job.t) == half.other.label(u)
         && related(half, job.flows.gives, flows.gives.as_slice())
-        && is_alike(half.mover, half.other, &half.pairs, job.t, u)
+        && is_alike(job, u)
 }
 
 /// The lowest transition of the other net that answers.

@@ -1,4 +1,7 @@
 //! The bags of the obligations of one transition, gone through in dictionary order.
+//!
+//! How many places are left to choose stands beside those chosen, and `sized` says that both together are the transition's:
+//! worked out of the places chosen, it would be a difference in each clause, and still a bound in each contract.
 ghost use Rattle.std.specs.Prelude.{◌≡◌, ℕ, ◌+◌, ◌-◌, ◌^◌, ◌<◌, ◌≤◌, true, [], ◌∷◌, ◌++◌, length, List, Option, Bool, is_some, IfOk};
 ghost use Rattle.bisimulation.specs.Lists.{lists_from};
 ghost use Rattle.bisimulation.specs.Verdicts.{obliges};
@@ -8,7 +11,6 @@ ghost use Rattle.verdict.specs.Search.{bags_after, mover_of, other_of, related_b
 use crate::job::Job;
 use crate::matching::completes;
 use crate::obligation::Obligation;
-use crate::place_list::PlaceList;
 use crate::short_list::ShortList;
 use nets::Net;
 
@@ -27,11 +29,7 @@ fn pass<F: Fn(ShortList) -> bool>(
     if passes(bag) {
         return Ok(count + 1);
     }
-    Err(Obligation {
-        side: job.half.side,
-        transition: job.t,
-        bag: PlaceList::of(bag),
-    })
+    Err(job.obligation(bag))
 }
 
 /// Goes through the bags that begin with the places chosen and then `from`, and go on with `left` places, none of them

@@ -12,8 +12,7 @@ ghost use Rattle.verdict.specs.ShortLists.{listed};
 use crate::answers::find_answer;
 use crate::job::Job;
 use crate::matching::completes;
-use crate::obligation::{AnsweredObligation, Obligation};
-use crate::place_list::PlaceList;
+use crate::obligation::AnsweredObligation;
 use crate::short_list::ShortList;
 use nets::Net;
 
@@ -24,11 +23,7 @@ fn write_one(job: &Job, bag: ShortList, at: usize, out: &mut [AnsweredObligation
     ensures { Wrote at out.old (entry job.now (listed bag) ∷ []) out.new }
 {
     let answer = find_answer(job, bag.as_slice());
-    let obligation = Obligation {
-        side: job.half.side,
-        transition: job.t,
-        bag: PlaceList::of(bag),
-    };
+    let obligation = job.obligation(bag);
     out[at] = AnsweredObligation { obligation, answer };
 }
 

@@ -2,10 +2,15 @@ ghost use Rattle.std.specs.Prelude.{◌≡◌, ℕ, List, false, MatchOption};
 ghost use Rattle.bisimulation.specs.Verdicts.{obliges};
 ghost use Rattle.nets.specs.Tables.{table_meaning};
 ghost use Rattle.verdict.specs.Relating.{pairs_of};
+ghost use Rattle.verdict.specs.Results.{at, obligation_at};
+ghost use Rattle.verdict.specs.ShortLists.{listed};
 
 use super::*;
 use crate::answers::is_blocked;
+use crate::obligation::Obligation;
 use crate::outline::flows_of;
+use crate::place_list::PlaceList;
+use crate::short_list::ShortList;
 use nets::Net;
 
 impl<'a, 'b> Job<'a, 'b> {
@@ -21,5 +26,16 @@ impl<'a, 'b> Job<'a, 'b> {
             t,
             flows: flows_of(half.mover, t),
         })
+    }
+
+    /// The obligation of the job's transition and the bag of a list.
+    pub(crate) fn obligation(&self, bag: ShortList) -> Obligation
+        ensures { obligation_at result ≡ at self.now.half.now.side self.now.t (listed bag) }
+    {
+        Obligation {
+            side: self.half.side,
+            transition: self.t,
+            bag: PlaceList::of(bag),
+        }
     }
 }
