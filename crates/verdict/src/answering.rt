@@ -17,9 +17,10 @@ use crate::job::Job;
 use crate::matching::related;
 use crate::outline::pile_on;
 use crate::short_list::ShortList;
+use crate::two_nets::TwoNets;
 use bisimulation::answer_given;
-use nets::{Net, Table};
-use places::{PlaceBag, Relation, Side};
+use nets::Net;
+use places::{PlaceBag, Side};
 
 /// The ascending list of a bag of up to four tokens.
 fn bag_list(bag: &PlaceBag) -> ShortList
@@ -55,30 +56,16 @@ fn answer_half(half: &Half, t: u8, bag: &PlaceBag) -> Option<u8>
 }
 
 /// The answer on either side.
-fn answer_value<'x>(
-    left: &'x Table,
-    right: &'x Table,
-    relation: &'x Relation,
-    side: Side,
-    t: u8,
-    bag: &PlaceBag,
-) -> Option<u8>
-    ensures { result ≡ answer_on (table_meaning left.now) (table_meaning right.now) (between (table_meaning left.now) (table_meaning right.now) (relation_of relation.now)) side t (list_of 16 (bag_of bag.now)) }
+fn answer_value(nets: &TwoNets, side: Side, t: u8, bag: &PlaceBag) -> Option<u8>
+    ensures { result ≡ answer_on (table_meaning nets.now.left.now) (table_meaning nets.now.right.now) (between (table_meaning nets.now.left.now) (table_meaning nets.now.right.now) (relation_of nets.now.relation.now)) side t (list_of 16 (bag_of bag.now)) }
 {
-    answer_half(&Half::of(side, left, right, relation), t, bag)
+    answer_half(&nets.half(side), t, bag)
 }
 
 /// The answer, with what it is in words.
-pub(crate) fn give_answer<'x>(
-    left: &'x Table,
-    right: &'x Table,
-    relation: &'x Relation,
-    side: Side,
-    t: u8,
-    bag: &PlaceBag,
-) -> Option<u8>
-    ensures { Answers (table_meaning left.now) (table_meaning right.now) (relation_of relation.now) side t (bag_of bag.now) result }
+pub(crate) fn give_answer(nets: &TwoNets, side: Side, t: u8, bag: &PlaceBag) -> Option<u8>
+    ensures { Answers (table_meaning nets.now.left.now) (table_meaning nets.now.right.now) (relation_of nets.now.relation.now) side t (bag_of bag.now) result }
 {
     answer_given();
-    answer_value(left, right, relation, side, t, bag)
+    answer_value(nets, side, t, bag)
 }

@@ -11,6 +11,7 @@ use judging::judge;
 use listing::write_answers;
 use nets::{Net, Table};
 use places::{PlaceBag, Relation, Side};
+use two_nets::TwoNets;
 
 mod answering;
 mod answers;
@@ -25,6 +26,7 @@ mod pairs;
 mod place_list;
 mod short_list;
 mod sides;
+mod two_nets;
 mod walk;
 mod writing;
 
@@ -40,10 +42,11 @@ pub fn verdict_on_tables(
 ) -> Result<u32, VerdictRefusal>
     ensures { Judges (table_meaning left.now) (table_meaning right.now) (relation_of relation.now) result }
 {
-    let l = *left;
-    let r = *right;
-    let pairs = *relation;
-    judge(&l, &r, &pairs)
+    judge(&TwoNets {
+        left,
+        right,
+        relation,
+    })
 }
 
 /// The same verdict on any two nets, which are copied to plain tables first.
@@ -69,15 +72,12 @@ pub fn answer<L: Net, R: Net>(
 ) -> Option<u8>
     ensures { Answers (L.Net.meaning left.now) (R.Net.meaning right.now) (relation_of relation.now) side transition (bag_of bag.now) result }
 {
-    let pairs = *relation;
-    give_answer(
-        &Table::of(left),
-        &Table::of(right),
-        &pairs,
-        side,
-        transition,
-        bag,
-    )
+    let nets = TwoNets {
+        left: &Table::of(left),
+        right: &Table::of(right),
+        relation,
+    };
+    give_answer(&nets, side, transition, bag)
 }
 
 /// The obligations in order, left before right, then by transition, then in dictionary order of their bags, each with
@@ -90,6 +90,10 @@ pub fn list_answers<L: Net, R: Net>(
 ) -> Result<usize, ListRefusal>
     ensures { ListsAnswers (L.Net.meaning left.now) (R.Net.meaning right.now) (relation_of relation.now) out.old result out.new }
 {
-    let pairs = *relation;
-    write_answers(&Table::of(left), &Table::of(right), &pairs, out)
+    let nets = TwoNets {
+        left: &Table::of(left),
+        right: &Table::of(right),
+        relation,
+    };
+    write_answers(&nets, out)
 }

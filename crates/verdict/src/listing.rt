@@ -9,10 +9,11 @@ use crate::half::Half;
 use crate::job::Job;
 use crate::obligation::{AnsweredObligation, ListRefusal};
 use crate::short_list::ShortList;
+use crate::two_nets::TwoNets;
 use crate::walk::first_open;
 use crate::writing::write_from;
-use nets::{Net, Table};
-use places::{Relation, Side};
+use nets::Net;
+use places::Side;
 
 /// How many obligations one transition has, added to `count`.
 fn count_transition(half: &Half, t: u8, count: u32) -> u32
@@ -64,16 +65,14 @@ fn write_side(half: &Half, start: usize, out: &mut [AnsweredObligation]) -> usiz
 }
 
 /// Each obligation in order with its answer or none.
-pub(crate) fn write_answers<'x>(
-    left: &'x Table,
-    right: &'x Table,
-    relation: &'x Relation,
+pub(crate) fn write_answers(
+    nets: &TwoNets,
     out: &mut [AnsweredObligation],
 ) -> Result<usize, ListRefusal>
-    ensures { ListsAnswers (table_meaning left.now) (table_meaning right.now) (relation_of relation.now) out.old result out.new }
+    ensures { ListsAnswers (table_meaning nets.now.left.now) (table_meaning nets.now.right.now) (relation_of nets.now.relation.now) out.old result out.new }
 {
-    let lefts = Half::of(Side::Left, left, right, relation);
-    let rights = Half::of(Side::Right, left, right, relation);
+    let lefts = nets.half(Side::Left);
+    let rights = nets.half(Side::Right);
     let total = (count_side(&lefts) + count_side(&rights)) as usize;
     if out.len() < total {
         return Err(ListRefusal::TooFew);

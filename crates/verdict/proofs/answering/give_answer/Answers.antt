@@ -5,4 +5,4 @@ use Rattle.verdict.proofs.Answered.{answer_says}
 use Rattle.verdict.proofs.answering.give_answer.Goals as goal
 
 pub returns : goal.returns
-returns c = answer_says (table_meaning c.args.left.now) (table_meaning c.args.right.now) (relation_of c.args.relation.now) c.args.side c.args.t (bag_of c.args.bag.now) c.answer_value.result c.answer_given.ensures (table_limits c.args.left.now) (table_limits c.args.right.now) (bag_placed c.args.bag.now) c.answer_value.ensures
+returns c = answer_says (table_meaning c.args.nets.now.left.now) (table_meaning c.args.nets.now.right.now) (relation_of c.args.nets.now.relation.now) c.args.side c.args.t (bag_of c.args.bag.now) c.answer_value.result c.answer_given.ensures (table_limits c.args.nets.now.left.now) (table_limits c.args.nets.now.right.now) (bag_placed c.args.bag.now) c.answer_value.ensures

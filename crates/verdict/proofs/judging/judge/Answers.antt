@@ -4,4 +4,4 @@ use Rattle.verdict.proofs.Whole.{judges}
 use Rattle.verdict.proofs.judging.judge.Goals as goal
 
 pub returns : goal.returns
-returns c = judges (table_meaning c.args.left.now) (table_meaning c.args.right.now) (relation_of c.args.relation.now) c.both_sides.result c.accepted_exactly.ensures c.refused_breaks.ensures (table_limits c.args.left.now) (table_limits c.args.right.now) c.both_sides.ensures
+returns c = judges (table_meaning c.args.nets.now.left.now) (table_meaning c.args.nets.now.right.now) (relation_of c.args.nets.now.relation.now) c.both_sides.result c.accepted_exactly.ensures c.refused_breaks.ensures (table_limits c.args.nets.now.left.now) (table_limits c.args.nets.now.right.now) c.both_sides.ensures

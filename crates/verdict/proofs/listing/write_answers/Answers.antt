@@ -12,21 +12,21 @@ use Rattle.verdict.proofs.listing.write_answers.Goals as goal
 
 pub returns-then-out-total : goal.returns-then-out-total
 returns-then-out-total c =
-    let n = table_meaning c.args.left.now in
-    let k = table_meaning c.args.right.now in
-    let R = relation_of c.args.relation.now in
-    let lefts = faced Left n k R c.of-lefts.result c.of-lefts.ensures (λ s m o S. c.count_side.result ≡ length (obligations_below s m o S m.transitions)) c.count_side.ensures.value in
-    let rights = faced Right n k R c.of-rights.result c.of-rights.ensures (λ s m o S. c.count_side-2.result ≡ length (obligations_below s m o S m.transitions)) c.count_side-2.ensures.value in
+    let n = table_meaning c.args.nets.now.left.now in
+    let k = table_meaning c.args.nets.now.right.now in
+    let R = relation_of c.args.nets.now.relation.now in
+    let lefts = faced Left n k R c.half-lefts.result c.half-lefts.ensures (λ s m o S. c.count_side.result ≡ length (obligations_below s m o S m.transitions)) c.count_side.ensures.value in
+    let rights = faced Right n k R c.half-rights.result c.half-rights.ensures (λ s m o S. c.count_side-2.result ≡ length (obligations_below s m o S m.transitions)) c.count_side-2.ensures.value in
     too_few n k R (between n k R) (turned (between n k R)) refl refl _ c.args.out.now (omega (arith, lefts, rights)) c.if-out-total.true
 
 pub returns : goal.returns
 returns c =
-    let n = table_meaning c.args.left.now in
-    let k = table_meaning c.args.right.now in
-    let R = relation_of c.args.relation.now in
-    let lefts = faced Left n k R c.of-lefts.result c.of-lefts.ensures (λ s m o S. c.count_side.result ≡ length (obligations_below s m o S m.transitions)) c.count_side.ensures.value in
-    let rights = faced Right n k R c.of-rights.result c.of-rights.ensures (λ s m o S. c.count_side-2.result ≡ length (obligations_below s m o S m.transitions)) c.count_side-2.ensures.value in
-    let next = faced Left n k R c.of-lefts.result c.of-lefts.ensures (λ s m o S. c.write_side-middle.result ≡ 0 + length (obligations_below s m o S m.transitions)) c.write_side-middle.ensures.next in
-    let one = faced Left n k R c.of-lefts.result c.of-lefts.ensures (λ s m o S. WroteBelow s m o S 0 c.args.out.now (obligations_below s m o S m.transitions) c.write_side-middle.new.out) c.write_side-middle.ensures.written in
-    let two = faced Right n k R c.of-rights.result c.of-rights.ensures (λ s m o S. WroteBelow s m o S c.write_side-middle.result c.write_side-middle.new.out (obligations_below s m o S m.transitions) c.write_side.new.out) c.write_side.ensures.written in
+    let n = table_meaning c.args.nets.now.left.now in
+    let k = table_meaning c.args.nets.now.right.now in
+    let R = relation_of c.args.nets.now.relation.now in
+    let lefts = faced Left n k R c.half-lefts.result c.half-lefts.ensures (λ s m o S. c.count_side.result ≡ length (obligations_below s m o S m.transitions)) c.count_side.ensures.value in
+    let rights = faced Right n k R c.half-rights.result c.half-rights.ensures (λ s m o S. c.count_side-2.result ≡ length (obligations_below s m o S m.transitions)) c.count_side-2.ensures.value in
+    let next = faced Left n k R c.half-lefts.result c.half-lefts.ensures (λ s m o S. c.write_side-middle.result ≡ 0 + length (obligations_below s m o S m.transitions)) c.write_side-middle.ensures.next in
+    let one = faced Left n k R c.half-lefts.result c.half-lefts.ensures (λ s m o S. WroteBelow s m o S 0 c.args.out.now (obligations_below s m o S m.transitions) c.write_side-middle.new.out) c.write_side-middle.ensures.written in
+    let two = faced Right n k R c.half-rights.result c.half-rights.ensures (λ s m o S. WroteBelow s m o S c.write_side-middle.result c.write_side-middle.new.out (obligations_below s m o S m.transitions) c.write_side.new.out) c.write_side.ensures.written in
     both_listed n k R (between n k R) (turned (between n k R)) refl refl _ c.write_side-middle.result c.write_side.result c.args.out.now c.write_side-middle.new.out c.write_side.new.out (omega (arith, lefts, rights)) c.if-out-total.false next one two
