@@ -24,7 +24,8 @@ unfoldable pub list_of : ℕ → Bag → List ℕ
 unfolding list_from
 list_of places m = list_from places 0 m
 
--- whether two lists are the same
+-- whether two lists are the same; unfolded only where that is asked for, and so is `times`, since examples are computed by
+-- them: std's words are unfolded wherever they stand
 unfoldable pub same_list : List ℕ → List ℕ → Bool
 same_list [] [] = true
 same_list [] (y ∷ ys) = false

@@ -32,6 +32,7 @@ fn count_side(half: &Half) -> u32
     ensures value { result ≡ length (obligations_of half.now (table_meaning half.now.mover.now).transitions) }
     ensures few { result ≤ 32 * 2 ^ 20 }
 {
+    // By `map` and `sum` a goal on the runs of the chain is left open, `sum-requires-clause-fits`.
     let mut count = 0;
     for t in 0..half.mover.transitions() {
         count = count_transition(half, t, count);

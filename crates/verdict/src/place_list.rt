@@ -10,8 +10,8 @@ ghost use Rattle.verdict.specs.ShortLists.{listed};
 use crate::short_list::ShortList;
 
 /// The bag of an obligation: an ascending list of up to four places, each as often as the bag holds it.
-// It is no `Sequence`, and has no ghost field: the checker takes no enum apart that holds a struct with one, and a refusal
-// holds this list.
+// It is no `Sequence`, and has no ghost field: the checker does not cover a `match` on an enum of a crate's own that holds a
+// struct with one, and a refusal holds this list.
 #[derive(Clone, Copy, Debug)]
 pub struct PlaceList {
     items: [u8; 4],

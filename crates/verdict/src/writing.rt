@@ -1,7 +1,8 @@
 //! The obligations of one transition with their answers, written to the caller's slice.
 //!
 //! The same walk as in `walk`, and no closure of it: after a call nothing is known of a slice that a closure borrowed and
-//! changed.
+//! changed. A trait with one impl that tests and one that writes would be no plainer: its contract would have to say both what
+//! a test gives and what each call leaves of the entries.
 ghost use Rattle.std.specs.Prelude.{◌≡◌, ℕ, ◌+◌, ◌-◌, ◌<◌, ◌≤◌, true, [], ◌∷◌, ◌++◌, map, length};
 ghost use Rattle.bisimulation.specs.Verdicts.{obliges};
 ghost use Rattle.verdict.specs.Results.{Wrote};
