@@ -1,4 +1,4 @@
-//! The numbers that stand for the kinds of arcs.
+//! The numbers that stand for the kinds of arcs, as the library's users write them: a constant can call no function.
 
 /// An arc from its place to its transition.
 pub const INPUT: u8 = 0;

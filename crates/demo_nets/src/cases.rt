@@ -41,6 +41,7 @@ impl<'a> NamedNet<'a> {
 }
 
 /// The name of a number.
+// The two programs share no crate, so that this stands in both.
 fn name<'a>(names: &[&'a str], number: u8) -> &'a str {
     names.get(number as usize).copied().unwrap_or("?")
 }

@@ -206,6 +206,17 @@ fn all_same(chart: u64, table: u64, arcs: u64, by_hand: u64) -> bool
     chart == table && chart == arcs && chart == by_hand
 }
 
+/// Whether three nets answer a question alike, and as worked by hand.
+fn is_as_by_hand<C: Net, T: Net, L: Net>(chart: &C, table: &T, arcs: &L, line: &Line) -> bool {
+    let question = line.question;
+    all_same(
+        ask(chart, question),
+        ask(table, question),
+        ask(arcs, question),
+        line.by_hand,
+    )
+}
+
 /// Asks three nets every question, prints the answers, and says whether all are the same and as worked by hand.
 fn compare<C: Net, T: Net, L: Net>(
     rt: &HostRuntime,
@@ -213,16 +224,15 @@ fn compare<C: Net, T: Net, L: Net>(
     table: &T,
     arcs: &L,
 ) -> io::Result<bool> {
-    let mut agrees = true;
-    for line in &LINES {
-        let Line { question, by_hand } = *line;
+    for Line { question, by_hand } in LINES {
         let a = ask(chart, question);
         let b = ask(table, question);
         let c = ask(arcs, question);
         println!(rt; "  {question}: chart {a}, table {b}, arc list {c}, by hand {by_hand}")?;
-        agrees = all_same(a, b, c, by_hand) && agrees;
     }
-    Ok(agrees)
+    Ok(LINES
+        .iter()
+        .all(|line| is_as_by_hand(chart, table, arcs, line)))
 }
 
 /// Prints the net in its three kinds, and says whether it came out as worked by hand.

@@ -21,15 +21,13 @@ mod tests {
     use std::test::Fail;
 
     #[test]
-    fn a_greedy_choice_is_undone(rt: HostRuntime) {
-        let mut relation = Relation::new();
-        relation.insert(0, 0);
-        relation.insert(0, 1);
-        relation.insert(1, 0);
-        let mut bag = PlaceBag::new();
-        assert!(rt; bag.lay(0).is_ok());
-        assert!(rt; bag.lay(1).is_ok());
+    fn a_greedy_choice_is_undone(rt: HostRuntime) -> Result<(), Fail> {
+        let relation = Relation::from(&[(0, 0), (0, 1), (1, 0)][..]);
+        let Ok(bag) = PlaceBag::try_from(&[0, 1][..]) else {
+            return Err(Fail::new("a token was refused"));
+        };
         assert!(rt; has_pairing(&relation, &bag, &bag));
+        Ok(())
     }
 
     #[test]
