@@ -149,7 +149,7 @@ const ARCS: &[Arc] = arcs![
     (1, 1, OUTPUT, 3),
 ];
 
-/// Builds the transition t. A refusal is none: nothing is said of it, and an error enum would only be let go.
+/// Builds the transition t. A refusal is none, here and in the next two: nothing is said of it, and nobody would read an error.
 fn add_t(chart: &mut Chart) -> Option<()> {
     chart
         .open_transition(Name::of(b"t")?, Name::of(b"x")?)
