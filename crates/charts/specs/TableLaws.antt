@@ -1,7 +1,8 @@
 -- Laws of the tables of a chart: how its lists are read off them. Assumes nothing.
-use Rattle.std.specs.Prelude.{◌≡◌, ℕ, ◌<◌, ◌≤◌, List, [], ◌∷◌, map, length, slice_index_or, refl}
+use Rattle.std.specs.Prelude.{◌≡◌, ℕ, ◌<◌, ◌≤◌, map, length, slice_index_or}
 use Rattle.std.proofs.Common.{ap, arith}
 use Rattle.std.proofs.lemmas.List.{get_or-map, get_or_past, length-map}
+use Rattle.std.proofs.lemmas.Simd.{map-map}
 use Rattle.charts.specs.Charts.{chart_view}
 use Rattle.charts.specs.PlaceTables.{places_of}
 use Rattle.charts.specs.Tables.{place_entry, transition_entry}
@@ -10,11 +11,6 @@ use Rattle.charts.specs.declared.chart.Chart.{Chart}
 use Rattle.charts.specs.declared.place_table.Place.{Place}
 use Rattle.charts.specs.declared.place_table.PlaceTable.{PlaceTable}
 use Rattle.charts.specs.declared.transition_table.Transition.{Transition}
-
--- a column of the entries
-pub column : {X Y : Type 0} (f : Y → ℕ) (g : X → Y) (xs : List X) → map f (map g xs) ≡ map (λ x. f (g x)) xs
-column f g [] = refl
-column f g (x ∷ xs) = ap (λ ns. f (g x) ∷ ns) (column f g xs)
 
 -- the places of a table: how many, their names, and the marking of each
 module _ (t : PlaceTable) where
@@ -25,7 +21,7 @@ module _ (t : PlaceTable) where
   places_few = omega (arith, place_count, t.room)
 
   pub places_named : place_names_in (places_of t) ≡ map (λ (p : Place). p.name) t.places.items
-  places_named = column (λ (e : PlaceEntry). e.name) place_entry t.places.items
+  places_named = map-map (λ (e : PlaceEntry). e.name) place_entry t.places.items
 
   pub marked_at : (p : ℕ) (d : Place) → p < length t.places.items → marking_in (places_of t) p ≡ (slice_index_or t.places.items p d).marking
   marked_at p d l = ap (λ (e : PlaceEntry). e.marking) (get_or-map place_entry t.places.items p d _ l)
@@ -45,7 +41,7 @@ module _ (c : Chart) where
   transition_past t g = get_or_past (chart_view c).transitions t no_transition g
 
   pub transitions_named : transition_names (chart_view c) ≡ map (λ (t : Transition). t.name) c.transitions.transitions.items
-  transitions_named = column (λ (e : TransitionEntry). e.name) transition_entry c.transitions.transitions.items
+  transitions_named = map-map (λ (e : TransitionEntry). e.name) transition_entry c.transitions.transitions.items
 
   pub labels_named : label_names (chart_view c) ≡ map (λ (t : Transition). t.label) c.transitions.transitions.items
-  labels_named = column (λ (e : TransitionEntry). e.label) transition_entry c.transitions.transitions.items
+  labels_named = map-map (λ (e : TransitionEntry). e.label) transition_entry c.transitions.transitions.items

@@ -77,8 +77,9 @@ impl TransitionTable {
     pub(crate) fn row(&self, t: u8) -> Option<&ChartRow>
         ensures { MatchOption result (entry_at (transitions_of self.now) t ≡ no_transition) (λ x. row_view x.now ≡ (entry_at (transitions_of self.now) t).row) }
     {
-        let transition = self.transitions.get(t as usize)?;
-        Some(&transition.row)
+        self.transitions
+            .get(t as usize)
+            .map(|transition| &transition.row)
     }
 
     /// Puts the transition that was open behind the last.

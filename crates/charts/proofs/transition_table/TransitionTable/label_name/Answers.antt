@@ -1,3 +1,4 @@
+use Rattle.std.proofs.Common.{refl}
 use Rattle.charts.specs.Tables.{transition_entry}
 use Rattle.charts.specs.TransitionTables.{transitions_of}
 use Rattle.charts.specs.Views.{TransitionEntry, label_names_in}
@@ -9,4 +10,4 @@ pub returns : goal.returns
 returns c =
     let h = c.in_ok-transition.ensures.lookup in
     name_at (λ (x : Transition). x.label) c.deref.result.now (label_names_in (transitions_of c.args.self.now)) c.args.t c.in_ok-transition.transition.now c.from_number.result
-    (read_off (λ (e : TransitionEntry). e.label) transition_entry _ _ c.deref.ensures.0) h.3.0 (h.3.1 _) c.args.self.now.labelled c.from_number.ensures
+    (read_off (λ (e : TransitionEntry). e.label) transition_entry _ _ c.deref.ensures.0) h.3.0 (h.3.1 _) c.args.self.now.labelled _ refl c.from_number.ensures
