@@ -1,7 +1,7 @@
 -- The steps of lists of names.
 use Rattle.std.proofs.Common.{◌≡◌, ℕ, ◌+◌, ◌<◌, true, false, cond, not, ◌||◌, eqb, List, [], ◌∷◌, ◌++◌, map, length, get_or, Some, None, Option, sym, refl, ap, ◌∙◌, subst, inl, inr, arith, MatchOption}
 use Rattle.std.proofs.lemmas.List.{length_push, length-map, map-append, get_or_push, get_or-map, get_or_append_left}
-use Rattle.std.proofs.lemmas.Option.{slice_get-get_or}
+use Rattle.std.proofs.lemmas.Option.{slice_get-map, slice_get_within, slice_get_read, get_or_from_slice_get}
 use Rattle.std.specs.List.{slice_get}
 use Rattle.std.proofs.lemmas.Bool.{cases_lt, eq-eqb, ne_eqb, and_parts, and_from, or_parts, or_from, not-true, not_from_false}
 use Rattle.std.specs.Option.{option_map}
@@ -12,7 +12,6 @@ use Rattle.names.specs.Meanings.{number_of}
 use Rattle.names.specs.declared.name.Name.{Name}
 use Rattle.std.specs.List.{position_from}
 use Rattle.std.proofs.lemmas.List.Folds.{list_any-append}
-use Rattle.charts.specs.TableLaws.{column}
 use Rattle.charts.specs.Naming.{position, has_name, AllNames, distinct}
 
 -- the first that passes in a list of values
@@ -54,17 +53,13 @@ names_push xs y h e i l = elim (cases_lt i (length xs)) [
 pub first_named : {X : Type 0} (h : X → ℕ) (xs : List X) (n m : ℕ) (r : Option ℕ) → r ≡ position_from (λ x. eqb (h x) n) 0 xs → n ≡ m → r ≡ position m (map h xs)
 first_named h xs n m r f e = f ∙ first_map h n 0 xs ∙ ap (λ k. position k (map h xs)) e
 
--- what is read as the name at i of a list of numbers that were read off some entries
-pub name_at : {X : Type 0} (h : X → ℕ) (xs : List X) (ns : List ℕ) (i : ℕ) (x : X) (r : Option Name) → map h xs ≡ ns → i < length xs → x ≡ get_or xs i x → AllNames ns → MatchOption r (IsName (h x) → ⊥) (λ m. IsName (h x) × (number_of m ≡ h x)) → option_map number_of r ≡ slice_get ns i
-name_at h xs ns i x r e l at names read =
-    let inside : i < length ns = omega (arith, ap length e, length-map xs h) in
-    let there : get_or ns i 0 ≡ h x = ap (λ ys. get_or ys i 0) (sym e) ∙ get_or-map h xs i x 0 l ∙ ap h (sym at) in
-    let packed : is_packed (h x) ≡ true = ap is_packed (sym there) ∙ names i inside in
-    name_read r (h x) read (packed_name _ packed) ∙ ap Some (sym there) ∙ sym (slice_get-get_or ns i 0 inside)
-
--- values that are read off entries
-pub read_off : {X Y : Type 0} (f : Y → ℕ) (g : X → Y) (xs ys : List X) → xs ≡ ys → map (λ x. f (g x)) xs ≡ map f (map g ys)
-read_off f g xs ys e = sym (column f g xs) ∙ ap (λ zs. map f (map g zs)) e
+-- what is read as the name, of the number n, at i of the numbers that are read off some entries
+pub name_at : {X : Type 0} (h : X → ℕ) (xs : List X) (i : ℕ) (x : X) (n : ℕ) (r : Option Name) → i < length xs → x ≡ get_or xs i x → AllNames (map h xs) → n ≡ h x → MatchOption r (IsName n → ⊥) (λ m. IsName n × (number_of m ≡ n)) → option_map number_of r ≡ slice_get (map h xs) i
+name_at h xs i x n r l at names same read =
+    let there : slice_get (map h xs) i ≡ Some (h x) = slice_get-map h xs i ∙ ap (option_map h) (slice_get_read xs (length xs) i x refl l at) in
+    let inside = slice_get_within (map h xs) i (h x) there in
+    let packed : is_packed n ≡ true = ap is_packed (same ∙ sym (get_or_from_slice_get (map h xs) i (h x) 0 there)) ∙ names i inside in
+    name_read r n read (packed_name _ packed) ∙ ap Some same ∙ sym there
 
 -- one entry more
 pub valid_more : {E : Type 0} (f : E → ℕ) (es : List E) (e : E) → AllNames (map f es) → is_packed (f e) ≡ true → AllNames (map f (es ++ e ∷ []))

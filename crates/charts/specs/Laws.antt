@@ -13,7 +13,7 @@ use Rattle.charts.specs.Naming.{AllNames, distinct}
 use Rattle.charts.specs.PlaceTables.{places_of}
 use Rattle.charts.specs.Rows.{RowView, empty_row, row_view, empty_at, empty_from}
 use Rattle.charts.specs.Tables.{listed_transitions, entry_at}
-use Rattle.charts.specs.TableLaws.{places_few, transitions_few, transition_past}
+use Rattle.charts.specs.TableLaws.{places_few, places_named, transitions_few, transition_past, transitions_named}
 use Rattle.charts.specs.Views.{TransitionEntry, no_transition, transition_at, place_names, transition_names, label_names, declared_marking}
 use Rattle.charts.specs.declared.row.ChartRow.{ChartRow}
 use Rattle.charts.specs.declared.chart.Chart.{Chart}
@@ -71,16 +71,16 @@ module _ (c : Chart) where
 
   -- names are names, no two places have the same, and no two closed transitions have the same; labels are names
   pub place_names_valid : AllNames (place_names (chart_view c))
-  place_names_valid = c.places.named
+  place_names_valid = subst AllNames (sym (places_named c.places)) c.places.places.named
 
   pub place_names_distinct : distinct (place_names (chart_view c)) ≡ true
-  place_names_distinct = c.places.apart
+  place_names_distinct = ap distinct (places_named c.places) ∙ c.places.places.apart
 
   pub transition_names_valid : AllNames (transition_names (chart_view c))
-  transition_names_valid = c.transitions.named
+  transition_names_valid = subst AllNames (sym (transitions_named c)) c.transitions.transitions.named
 
   pub transition_names_distinct : distinct (transition_names (chart_view c)) ≡ true
-  transition_names_distinct = c.transitions.apart
+  transition_names_distinct = ap distinct (transitions_named c) ∙ c.transitions.transitions.apart
 
   pub labels_valid : AllNames (label_names (chart_view c))
   labels_valid = c.transitions.labelled
@@ -94,7 +94,7 @@ module _ (c : Chart) where
         let h = and_parts (r.inputs p == 0) (r.outputs p == 0 && not (r.inhibitors p)) (empty_there (length (places_of c.places)) 16 p r (c.inside t l) g low) in
         let k = and_parts (r.outputs p == 0) (not (r.inhibitors p)) h.1 in
         (eqb-true (r.inputs p) 0 h.0, (eqb-true (r.outputs p) 0 k.0, not-true (r.inhibitors p) k.1))
-    | inr high ↦ every_row Low row_low (λ q m. (refl, (refl, refl))) c.transitions.transitions.items t p high
+    | inr high ↦ every_row Low row_low (λ q m. (refl, (refl, refl))) c.transitions.transitions.entries.items t p high
   ]
 
   -- what holds of the transition t, where it is closed and where it stands behind the last
@@ -110,9 +110,9 @@ module _ (c : Chart) where
     few_places = few_places;
     few_transitions = few_transitions;
     some_input = c.transitions.takes;
-    few_inputs = λ t l. every_row (λ r. size r.inputs ≤ 4) row_few_inputs (omega (arith, tokens_empty 16 everywhere)) c.transitions.transitions.items t;
+    few_inputs = λ t l. every_row (λ r. size r.inputs ≤ 4) row_few_inputs (omega (arith, tokens_empty 16 everywhere)) c.transitions.transitions.entries.items t;
     some_output = c.transitions.gives;
-    few_outputs = λ t l. every_row (λ r. size r.outputs ≤ 4) row_few_outputs (omega (arith, tokens_empty 16 everywhere)) c.transitions.transitions.items t;
+    few_outputs = λ t l. every_row (λ r. size r.outputs ≤ 4) row_few_outputs (omega (arith, tokens_empty 16 everywhere)) c.transitions.transitions.entries.items t;
     short_label = λ t. by_number (λ e. e.label < 2 ^ 64) t (c.transitions.short t) (lit< tt);
     no_label = λ t g. ap (λ (e : TransitionEntry). e.label) (transition_past c t g);
     no_transition_input = λ t p g. ap (λ (e : TransitionEntry). e.row.inputs p) (transition_past c t g);

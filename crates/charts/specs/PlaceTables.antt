@@ -6,4 +6,4 @@ use Rattle.charts.specs.declared.place_table.PlaceTable.{PlaceTable}
 
 -- its places
 abbrev pub places_of : PlaceTable → List PlaceEntry
-places_of t = listed_places t.places.items
+places_of t = listed_places t.places.entries.items

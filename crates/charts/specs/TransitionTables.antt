@@ -6,4 +6,4 @@ use Rattle.charts.specs.declared.transition_table.TransitionTable.{TransitionTab
 
 -- its transitions
 abbrev pub transitions_of : TransitionTable → List TransitionEntry
-transitions_of t = listed_transitions t.transitions.items
+transitions_of t = listed_transitions t.transitions.entries.items

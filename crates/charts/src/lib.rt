@@ -3,6 +3,7 @@
 #![tactic(auto)]
 
 mod chart;
+mod entries;
 mod named;
 mod opened;
 mod place_table;

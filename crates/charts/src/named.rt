@@ -29,6 +29,5 @@ pub(crate) fn find<T: Named>(entries: &[T], name: Name) -> Option<u8>
     requires { length entries.now ≤ 256 }
     ensures { result ≡ position (number_of name) (map T.named entries.now) }
 {
-    let i = first(entries, name.number())?;
-    Some(i as u8)
+    first(entries, name.number()).map(|i| i as u8)
 }

@@ -1,11 +1,10 @@
-ghost use Rattle.std.specs.Prelude.{◌≡◌, ◌≤◌, true, length};
+ghost use Rattle.std.specs.Prelude.{◌≡◌, ◌≤◌};
 ghost use Rattle.places.specs.Sets.{size};
-ghost use Rattle.charts.specs.Naming.{AllNames, distinct};
 ghost use Rattle.charts.specs.Tables.{listed_places};
-ghost use Rattle.charts.specs.Views.{marking_in, place_names_in};
+ghost use Rattle.charts.specs.Views.{marking_in};
 
+use crate::entries::Entries;
 use crate::named::Named;
-use arrayvec::ArrayVec;
 
 /// A place: the number of its name, and its declared marking.
 #[derive(Clone, Copy, Debug, Default, PartialEq, Eq)]
@@ -25,12 +24,9 @@ impl Named for Place {
 /// The places of a chart, no two with the same name, their declared markings at most 64 tokens together.
 #[derive(Drop)]
 pub(crate) struct PlaceTable {
-    places: ArrayVec<Place, 16>,
+    places: Entries<Place, 16>,
     tokens: u8,
-    ghost room: { length places.items ≤ 16 },
-    ghost named: { AllNames (place_names_in (listed_places places.items)) },
-    ghost apart: { distinct (place_names_in (listed_places places.items)) ≡ true },
-    ghost total: { tokens ≡ size (marking_in (listed_places places.items)) },
+    ghost total: { tokens ≡ size (marking_in (listed_places places.entries.items)) },
     ghost few: { tokens ≤ 64 },
 }
 

@@ -9,7 +9,6 @@ ghost use Rattle.charts.specs.Views.{marking_in, place_declared_as, place_names_
 
 use super::*;
 use crate::ChartRefusal;
-use crate::named::find;
 use names::Name;
 
 impl PlaceTable {
@@ -18,7 +17,7 @@ impl PlaceTable {
         ensures { places_of result ≡ [] }
     {
         PlaceTable {
-            places: ArrayVec::new(),
+            places: Entries::new(),
             tokens: 0,
         }
     }
@@ -28,36 +27,38 @@ impl PlaceTable {
         ensures value { result ≡ length (places_of self.now) }
         ensures few { result ≤ 16 }
     {
-        self.places.len() as u8
+        self.places.len()
     }
 
     /// The number of the place of a name.
+    #[tactic(auto, using(crate::specs::TableLaws::places_named))]
     pub(crate) fn find(&self, name: Name) -> Option<u8>
         ensures { result ≡ position (number_of name) (place_names_in (places_of self.now)) }
     {
-        find(&self.places, name)
+        self.places.find(name)
     }
 
     /// Whether a place has the name.
+    #[tactic(auto, using(crate::specs::TableLaws::places_named))]
     fn has(&self, name: Name) -> bool
         ensures { result ≡ has_name (number_of name) (place_names_in (places_of self.now)) }
     {
-        self.find(name).is_some()
+        self.places.has(name)
     }
 
     /// The name of a place.
+    #[tactic(auto, using(crate::specs::TableLaws::places_named))]
     pub(crate) fn name(&self, p: u8) -> Option<Name>
         ensures { option_map number_of result ≡ slice_get (place_names_in (places_of self.now)) p }
     {
-        let place = self.places.get(p as usize)?;
-        Name::from_number(place.name)
+        self.places.name(p)
     }
 
     /// The declared marking of a place, 0 behind the last.
     pub(crate) fn marking(&self, p: u8) -> u8
         ensures { result ≡ marking_in (places_of self.now) p }
     {
-        self.places.get(p as usize).map_or(0, |place| place.marking)
+        self.places.get(p).map_or(0, |place| place.marking)
     }
 
     /// What the declared markings are together.

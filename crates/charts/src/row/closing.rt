@@ -1,7 +1,7 @@
 //! Whether a row may be that of a transition.
 ghost use Rattle.std.specs.Prelude.{◌≡◌, ◌||◌, nat_lt};
-ghost use Rattle.charts.specs.Rows.{declared_only, empty_at, row_view};
-ghost use Rattle.charts.specs.Views.{row_closed_as, sum_checked_as};
+ghost use Rattle.charts.specs.Rows.{declared_only, empty_at, row_view, weights_of};
+ghost use Rattle.charts.specs.Views.{row_closed_as, row_weights, sum_checked_as};
 
 use super::*;
 use crate::{ChartRefusal, Role};
@@ -30,18 +30,23 @@ impl ChartRow {
         (0..16).all(|p| self.is_declared_at(places, p))
     }
 
+    /// The weights of a role.
+    fn weights(&self, role: Role) -> &Weights
+        ensures { weights_of result.now ≡ row_weights (row_view self.now) role }
+    {
+        match role {
+            Role::Input => &self.inputs,
+            Role::Output => &self.outputs,
+        }
+    }
+
     /// Whether the weights of a role add up to enough.
     fn check_sum(&self, role: Role) -> Result<(), ChartRefusal>
         ensures { result ≡ sum_checked_as role (row_view self.now) }
     {
-        let sum = match role {
-            Role::Input => self.inputs.total(),
-            Role::Output => self.outputs.total(),
-        };
-        if sum < LEAST_SUM {
-            return Err(ChartRefusal::Sum(role));
-        }
-        Ok(())
+        (self.weights(role).total() >= LEAST_SUM)
+            .then_some(())
+            .ok_or(ChartRefusal::Sum(role))
     }
 
     /// Gives the number of the transition that the row is closed as, or says why it is not.

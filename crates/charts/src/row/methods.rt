@@ -17,6 +17,9 @@ impl ChartRow {
         }
     }
 
+    // `input`, `output`, `add_input` and `add_output` are one line each over `Weights`, and say the role in their names: a
+    // parameter for the role would be no plainer, since each caller writes one fixed role.
+
     /// The input weight at `place`, 0 above 15.
     pub fn input(&self, place: u8) -> u8
         ensures { result ≡ (row_view self.now).inputs place }
@@ -46,7 +49,6 @@ impl ChartRow {
         self.inputs.add(place, weight)
     }
 
-    // Two methods that say the role in their names, over one `Weights::add`: callers write neither from a variable role.
     /// Makes `place` an output place with this weight, or says why not.
     pub fn add_output(&mut self, place: u8, weight: u8) -> Result<(), RowRefusal>
         ensures result { result ≡ added_as (row_view self.old).outputs place weight }

@@ -12,7 +12,6 @@ ghost use Rattle.charts.specs.TransitionTables.{transitions_of};
 ghost use Rattle.charts.specs.Views.{label_names_in, no_transition, transition_names_in};
 
 use super::*;
-use crate::named::find;
 use crate::opened::Opened;
 use names::Name;
 
@@ -22,7 +21,7 @@ impl TransitionTable {
         ensures { transitions_of result ≡ [] }
     {
         TransitionTable {
-            transitions: ArrayVec::new(),
+            transitions: Entries::new(),
         }
     }
 
@@ -31,36 +30,38 @@ impl TransitionTable {
         ensures value { result ≡ length (transitions_of self.now) }
         ensures few { result ≤ 32 }
     {
-        self.transitions.len() as u8
+        self.transitions.len()
     }
 
     /// The number of the transition of a name.
+    #[tactic(auto, using(crate::specs::TableLaws::entries_named))]
     pub(crate) fn find(&self, name: Name) -> Option<u8>
         ensures { result ≡ position (number_of name) (transition_names_in (transitions_of self.now)) }
     {
-        find(&self.transitions, name)
+        self.transitions.find(name)
     }
 
     /// Whether a transition has the name.
+    #[tactic(auto, using(crate::specs::TableLaws::entries_named))]
     pub(crate) fn has(&self, name: Name) -> bool
         ensures { result ≡ has_name (number_of name) (transition_names_in (transitions_of self.now)) }
     {
-        self.find(name).is_some()
+        self.transitions.has(name)
     }
 
     /// The name of a transition.
+    #[tactic(auto, using(crate::specs::TableLaws::entries_named))]
     pub(crate) fn name(&self, t: u8) -> Option<Name>
         ensures { option_map number_of result ≡ slice_get (transition_names_in (transitions_of self.now)) t }
     {
-        let transition = self.transitions.get(t as usize)?;
-        Name::from_number(transition.name)
+        self.transitions.name(t)
     }
 
     /// The name that is packed into the label of a transition.
     pub(crate) fn label_name(&self, t: u8) -> Option<Name>
         ensures { option_map number_of result ≡ slice_get (label_names_in (transitions_of self.now)) t }
     {
-        let transition = self.transitions.get(t as usize)?;
+        let transition = self.transitions.get(t)?;
         Name::from_number(transition.label)
     }
 
@@ -69,7 +70,7 @@ impl TransitionTable {
         ensures { result ≡ (entry_at (transitions_of self.now) t).label }
     {
         self.transitions
-            .get(t as usize)
+            .get(t)
             .map_or(0, |transition| transition.label)
     }
 
@@ -77,8 +78,7 @@ impl TransitionTable {
     pub(crate) fn row(&self, t: u8) -> Option<&ChartRow>
         ensures { MatchOption result (entry_at (transitions_of self.now) t ≡ no_transition) (λ x. row_view x.now ≡ (entry_at (transitions_of self.now) t).row) }
     {
-        let transition = self.transitions.get(t as usize)?;
-        Some(&transition.row)
+        self.transitions.get(t).map(|transition| &transition.row)
     }
 
     /// Puts the transition that was open behind the last.

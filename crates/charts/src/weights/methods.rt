@@ -44,7 +44,7 @@ impl Weights {
         ensures result { result ≡ added_as (weights_of self.old) place weight }
         ensures after { weights_of self.new ≡ unless_refused result (weights_of self.old) (with_weight (weights_of self.old) place weight) }
     {
-        if !(1..=4).contains(&weight) {
+        if !(1..=MOST_SUM).contains(&weight) {
             return Err(RowRefusal::Weight);
         }
         if place > 15 {

@@ -1,16 +1,12 @@
-use Rattle.std.proofs.Common.{length, sym, ap, ◌∙◌, subst, arith}
+use Rattle.std.proofs.Common.{sym, ap, ◌∙◌, arith}
 use Rattle.places.specs.Sets.{everywhere, size}
 use Rattle.places.specs.Laws.{tokens_empty}
-use Rattle.charts.specs.Naming.{AllNames, distinct}
 use Rattle.charts.specs.Tables.{listed_places}
-use Rattle.charts.specs.Views.{marking_in, place_names_in}
+use Rattle.charts.specs.Views.{marking_in}
 use Rattle.charts.proofs.place_table.PlaceTable.new.Goals as goal
 
 pub invariant_of-result : goal.invariant_of-result
 invariant_of-result c = record {
-  room = omega (arith, ap length c.new.ensures);
-  named = subst (λ ps. AllNames (place_names_in (listed_places ps))) (sym c.new.ensures) (λ i l. absurd (omega arith));
-  apart = ap (λ ps. distinct (place_names_in (listed_places ps))) c.new.ensures;
   total = sym (ap (λ ps. size (marking_in (listed_places ps))) c.new.ensures ∙ tokens_empty 16 everywhere);
   few = omega arith;
 }
