@@ -1,5 +1,6 @@
 -- Counting and removing where the equality is that of the values: the laws that callers use. Assumes nothing.
-use Rattle.std.specs.Prelude.{◌≡◌, ℕ, suc, Bool, true, false, cond, ◌&&◌, List, [], ◌∷◌, Decides, MatchBool, count_by, ◌==◌, nat_eq, refl}
+use Rattle.std.specs.Prelude.{◌≡◌, ℕ, suc, Bool, true, false, cond, ◌&&◌, ◌||◌, List, [], ◌∷◌, Decides, MatchBool, count_by, ◌==◌, nat_eq, refl}
+use Rattle.std.specs.List.{list_any}
 use Rattle.std.proofs.Common.{sym, ap, ◌∙◌, arith}
 use Rattle.std.proofs.lemmas.List.Sums.{sum_by-cons}
 use Rattle.std.proofs.lemmas.Bool.{eqb-true, eq-eqb}
@@ -7,8 +8,7 @@ use Rattle.bags.specs.Equality.{Counts, none, one, other, Removes, absent, here,
 
 -- whether an element passes the test
 abbrev pub some_passes : {X : Type 0} → (X → Bool) → List X → Bool
-some_passes e [] = false
-some_passes e (y ∷ ys) = cond (e y) true (some_passes e ys)
+some_passes e xs = list_any e xs
 
 -- the list without the earliest element that passes the test
 abbrev pub without : {X : Type 0} → (X → Bool) → List X → List X
@@ -36,10 +36,10 @@ counts_by e tells (y ∷ ys) n (other _ _ k h c) = omega (arith, counts_by e tel
 -- and removing takes out the earliest that passes it, and says whether there is one
 pub removes_by : {X : Type 0} {E : X → Bool → Type 0} (e : X → Bool) → ((y : X) (b : Bool) → E y b → b ≡ e y) → (xs : List X) (found : Bool) (zs : List X) → Removes E xs found zs → (found ≡ some_passes e xs) × (zs ≡ without e xs)
 removes_by e tells [] found zs absent = (refl, refl)
-removes_by e tells (y ∷ ys) found zs (here _ _ h) = (ap (λ b. cond b true (some_passes e ys)) (tells y true h), ap (λ b. cond b ys (y ∷ without e ys)) (tells y true h))
+removes_by e tells (y ∷ ys) found zs (here _ _ h) = (ap (λ b. b || some_passes e ys) (tells y true h), ap (λ b. cond b ys (y ∷ without e ys)) (tells y true h))
 removes_by e tells (y ∷ ys) found zs (later _ _ _ ws h r) =
     let rest = removes_by e tells ys found ws r in (
-      rest.0 ∙ ap (λ b. cond b true (some_passes e ys)) (tells y false h),
+      rest.0 ∙ ap (λ b. b || some_passes e ys) (tells y false h),
       ap (λ t. y ∷ t) rest.1 ∙ ap (λ b. cond b ys (y ∷ without e ys)) (tells y false h),
     )
 

@@ -34,7 +34,7 @@ fn all_digits(word: &[u8]) -> bool
 fn is_numeral(word: &[u8]) -> bool
     ensures { result ≡ is_numeral word.now }
 {
-    word.len() >= 1 && word.len() <= 5 && all_digits(word)
+    (1..=5).contains(&word.len()) && all_digits(word)
 }
 
 /// Whether a zero stands before another digit.

@@ -1,6 +1,6 @@
 -- The steps of bags, sets and relations on tables.
 use Rattle.std.specs.List.{sum_by}
-use Rattle.std.proofs.Common.{◌≡◌, ℕ, zero, suc, ◌+◌, ◌-◌, ◌<◌, ◌≤◌, Bool, false, cond, eqb, ◌⊎◌, List, [], length, get_or, take, set, replicate, sym, refl, ap, ◌∙◌, subst, inl, inr, add-one, arith}
+use Rattle.std.proofs.Common.{◌≡◌, ℕ, zero, suc, ◌+◌, ◌-◌, ◌<◌, ◌≤◌, false, cond, eqb, ◌⊎◌, List, [], length, get_or, take, set, replicate, sym, refl, ap, ◌∙◌, subst, inl, inr, add-one, arith}
 use mathlib.Core.Path.{fun_ext}
 use Rattle.std.proofs.lemmas.List.{get_or-set_same, get_or-set_other, get_or-replicate, get_or_past, length-replicate, take_all}
 use Rattle.std.proofs.lemmas.Bool.{cases_eq, cases_lt, eq-eqb, ne_eqb}
@@ -48,14 +48,6 @@ no_rows = fun_ext (λ p. fun_ext (λ q. here p q (cases_lt p 16)))
 
 pub square_rows : Square (replicate 16 (replicate 16 false))
 square_rows = (refl, λ p l. ap length (get_or-replicate 16 p (replicate 16 false) [] l))
-
--- a pair with a place above 15 is not marked
-pub past_pair : (rows : List (List Bool)) (p q : ℕ) → Square rows → (16 ≤ p) ⊎ (16 ≤ q) → rowed rows p q ≡ false
-past_pair rows p q s (inl l) = ap (λ row. get_or row q false) (get_or_past rows p [] (omega (arith, s.0)))
-past_pair rows p q s (inr l) = elim (cases_lt p 16) [
-  | inl k ↦ get_or_past (get_or rows p []) q false (omega (arith, s.1 p k))
-  | inr k ↦ ap (λ row. get_or row q false) (get_or_past rows p [] (omega (arith, s.0)))
-]
 
 -- a place with a token is in the table
 pub in_table : (l : List ℕ) (i : ℕ) → (get_or l i 0 ≡ 0 → ⊥) → i < length l

@@ -2,8 +2,11 @@
 
 #![tactic(auto)]
 
-ghost use Rattle.std.specs.Prelude.{◌≡◌};
+ghost use Rattle.std.specs.Prelude.{◌≡◌, Some};
 ghost use Rattle.places.specs.Refusals.{lay_number};
+ghost use Rattle.places.specs.Sides.{side_text};
+
+use std::fmt;
 
 mod lists;
 mod place_bag;
@@ -20,6 +23,18 @@ pub use relation::Relation;
 pub enum Side {
     Left,
     Right,
+}
+
+/// The side in lower case: `left` or `right`.
+impl fmt::Display for Side {
+    ghost output = { λ side. Some (side_text side) };
+
+    fn fmt<W: fmt::Write>(&self, f: &mut fmt::Formatter<W>) -> fmt::Result {
+        f.write_str(match self {
+            Side::Left => "left",
+            Side::Right => "right",
+        })
+    }
 }
 
 /// Why a token is not laid.

@@ -1,5 +1,5 @@
 //! The steps of bags, sets and relations on plain tables.
-ghost use Rattle.std.specs.Prelude.{◌≡◌, ℕ, ◌+◌, ◌-◌, ◌<◌, ◌≤◌, true, false, length, if◌then◌else◌, nat_lt};
+ghost use Rattle.std.specs.Prelude.{◌≡◌, ℕ, ◌+◌, ◌-◌, ◌<◌, ◌≤◌, true, false, length, if◌then◌else◌, nat_lt, slice_index_or};
 ghost use Rattle.places.specs.Bags.{empty, single, ◌⊕◌, ◌⊖◌};
 ghost use Rattle.places.specs.Sets.{nowhere, size, unrelated, with_pair, with_place};
 ghost use Rattle.places.specs.Tables.{counted, flagged, rowed, Square};
@@ -13,11 +13,18 @@ pub(crate) fn no_counts() -> [u8; 16]
     [0; 16]
 }
 
+/// The element of a table at a place, and above 15 the value that is said.
+fn at_or<T: Copy>(table: &[T], place: u8, beyond: T) -> T
+    ensures { result ≡ slice_index_or table.now place beyond }
+{
+    table.get(place as usize).copied().unwrap_or(beyond)
+}
+
 /// The count of a place, 0 above 15.
 pub(crate) fn entry(counts: &[u8; 16], p: u8) -> u8
     ensures { result ≡ counted counts.now p }
 {
-    counts.get(p as usize).copied().unwrap_or(0)
+    at_or(counts, p, 0)
 }
 
 /// The tokens on all places.
@@ -62,7 +69,7 @@ pub(crate) fn no_flags() -> [bool; 16]
 pub(crate) fn flag(flags: &[bool; 16], p: u8) -> bool
     ensures { result ≡ flagged flags.now p }
 {
-    flags.get(p as usize).copied().unwrap_or(false)
+    at_or(flags, p, false)
 }
 
 /// Marks a place, if there is such a place.
@@ -84,13 +91,12 @@ pub(crate) fn no_rows() -> [[bool; 16]; 16]
 
 /// Whether a pair is marked; none with a place above 15 is.
 pub(crate) fn pair_flag(rows: &[[bool; 16]; 16], p: u8, q: u8) -> bool
-    requires { Square rows.now }
     ensures { result ≡ rowed rows.now p q }
 {
-    if p > 15 || q > 15 {
-        return false;
-    }
-    rows[p as usize][q as usize]
+    rows.get(p as usize)
+        .and_then(|row| row.get(q as usize))
+        .copied()
+        .unwrap_or(false)
 }
 
 /// Marks a pair or takes its mark away, if there are such places.

@@ -16,6 +16,15 @@ impl<T: Copy + Default, const N: usize> Sequence<T, N> {
     }
 }
 
+// Written out: no `Default` can be derived for a struct with a ghost field.
+impl<T: Copy + Default, const N: usize> Default for Sequence<T, N> {
+    ghost is_default = { λ s. items s ≡ [] };
+
+    fn default() -> Self {
+        Sequence::new()
+    }
+}
+
 impl<T: Copy, const N: usize> Sequence<T, N> {
     /// Made empty over a room of N elements, whatever they are.
     pub fn over(room: [T; N]) -> Self

@@ -55,3 +55,11 @@ impl PlaceBag {
         less_one(&mut self.counts, place)
     }
 }
+
+impl Default for PlaceBag {
+    ghost is_default = { λ b. bag_of b ≡ empty };
+
+    fn default() -> Self {
+        PlaceBag::new()
+    }
+}

@@ -27,3 +27,11 @@ impl PlaceSet {
         mark(&mut self.flags, place);
     }
 }
+
+impl Default for PlaceSet {
+    ghost is_default = { λ s. set_of s ≡ nowhere };
+
+    fn default() -> Self {
+        PlaceSet::new()
+    }
+}

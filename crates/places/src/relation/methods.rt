@@ -34,3 +34,11 @@ impl Relation {
         mark_pair(&mut self.rows, left, right, false);
     }
 }
+
+impl Default for Relation {
+    ghost is_default = { λ r. relation_of r ≡ unrelated };
+
+    fn default() -> Self {
+        Relation::new()
+    }
+}
