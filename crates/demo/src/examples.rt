@@ -32,7 +32,15 @@ pub struct Example<'a> {
     pub expected: Expected<'a>,
 }
 
-impl Example<'_> {
+impl<'a> Example<'a> {
+    /// The names of the places of a side.
+    pub fn names(&self, side: Side) -> &'a [&'a str] {
+        match side {
+            Side::Left => self.left_names,
+            Side::Right => self.right_names,
+        }
+    }
+
     /// The left and the right bag, or the first refusal of a token.
     pub fn bags(&self) -> Result<(PlaceBag, PlaceBag), LayRefusal> {
         Ok((

@@ -62,10 +62,8 @@ pub struct NamedRefusal<'a> {
 impl fmt::Display for NamedRefusal<'_> {
     fn fmt<W: fmt::Write>(&self, f: &mut fmt::Formatter<W>) -> fmt::Result {
         let number = self.number;
-        let (side, names) = match self.side {
-            Side::Left => ("left", self.example.left_names),
-            Side::Right => ("right", self.example.right_names),
-        };
+        let side = self.side;
+        let names = self.example.names(side);
         write!(f, "{number} {side} {{")?;
         for place in (0..16u8).filter(|place| self.places.contains(*place)) {
             write_times(f, name(names, place), 1)?;

@@ -102,6 +102,14 @@ pub struct Case<'a> {
 }
 
 impl<'a> Case<'a> {
+    /// The net of `side`.
+    pub fn mover(&self, side: Side) -> &'a NamedNet<'a> {
+        match side {
+            Side::Left => self.left,
+            Side::Right => self.right,
+        }
+    }
+
     /// The net that answers when the net of `side` moves.
     pub fn other(&self, side: Side) -> &'a NamedNet<'a> {
         match side {

@@ -1,6 +1,5 @@
 //! What is printed of a case: each struct is a value with the names of the case's nets.
 use crate::cases::{Case, Outcome, Owed};
-use places::Side;
 use std::fmt;
 
 /// The pairs of the relation, of a left and a right place.
@@ -29,11 +28,9 @@ pub struct NamedOwed<'a, 'b> {
 
 impl fmt::Display for NamedOwed<'_, '_> {
     fn fmt<W: fmt::Write>(&self, f: &mut fmt::Formatter<W>) -> fmt::Result {
-        let (side, mover, other) = match self.owed.side {
-            Side::Left => ("left", self.case.left, self.case.right),
-            Side::Right => ("right", self.case.right, self.case.left),
-        };
-        let transition = mover.transition(self.owed.transition);
+        let side = self.owed.side;
+        let other = self.case.other(side);
+        let transition = self.case.mover(side).transition(self.owed.transition);
         write!(f, "{side} {transition} at")?;
         for place in self.owed.bag {
             let place = other.place(*place);
