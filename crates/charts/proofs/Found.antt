@@ -1,6 +1,6 @@
 -- The steps of lists of names.
 use Rattle.std.proofs.Common.{◌≡◌, ℕ, ◌+◌, ◌<◌, true, false, cond, not, ◌||◌, eqb, List, [], ◌∷◌, ◌++◌, map, length, get_or, Some, None, Option, sym, refl, ap, ◌∙◌, subst, inl, inr, arith, MatchOption}
-use Rattle.std.proofs.lemmas.List.{length_push, length-map, map-append, get_or_push, get_or-map, get_or_append_left}
+use Rattle.std.proofs.lemmas.List.{length_push, map-append, get_or_push, get_or_append_left}
 use Rattle.std.proofs.lemmas.Option.{slice_get-map, slice_get_within, slice_get_read, get_or_from_slice_get}
 use Rattle.std.specs.List.{slice_get}
 use Rattle.std.proofs.lemmas.Bool.{cases_lt, eq-eqb, ne_eqb, and_parts, and_from, or_parts, or_from, not-true, not_from_false}
@@ -62,8 +62,8 @@ name_at h xs i x n r l at names same read =
     name_read r n read (packed_name _ packed) ∙ ap Some same ∙ sym there
 
 -- one entry more
-pub valid_more : {E : Type 0} (f : E → ℕ) (es : List E) (e : E) → AllNames (map f es) → is_packed (f e) ≡ true → AllNames (map f (es ++ e ∷ []))
-valid_more f es e h p = subst AllNames (sym (map-append f es (e ∷ []))) (names_push (map f es) (f e) h p)
+pub valid_more : {E : Type 0} (f : E → ℕ) (es : List E) (e : E) (after : List E) → after ≡ es ++ e ∷ [] → AllNames (map f es) → is_packed (f e) ≡ true → AllNames (map f after)
+valid_more f es e after more h p = subst AllNames (sym (ap (map f) more ∙ map-append f es (e ∷ []))) (names_push (map f es) (f e) h p)
 
-pub distinct_more : {E : Type 0} (f : E → ℕ) (es : List E) (e : E) → distinct (map f es) ≡ true → has_name (f e) (map f es) ≡ false → distinct (map f (es ++ e ∷ [])) ≡ true
-distinct_more f es e h n = ap distinct (map-append f es (e ∷ [])) ∙ distinct_push (map f es) (f e) h n
+pub distinct_more : {E : Type 0} (f : E → ℕ) (es : List E) (e : E) (after : List E) → after ≡ es ++ e ∷ [] → distinct (map f es) ≡ true → has_name (f e) (map f es) ≡ false → distinct (map f after) ≡ true
+distinct_more f es e after more h n = ap distinct (ap (map f) more ∙ map-append f es (e ∷ [])) ∙ distinct_push (map f es) (f e) h n
