@@ -29,7 +29,7 @@ fn place(count: Count, before: u8, places: u8) -> Result<u8, Flaw<NumberFault>>
 {
     let before = u32::from(before);
     let last = before + u32::from(places);
-    if count.value > before && count.value <= last {
+    if (before + 1..=last).contains(&count.value) {
         Ok((count.value - before - 1) as u8)
     } else {
         Err(mismatch(count))
@@ -63,11 +63,8 @@ impl Reading {
     fn check_places(&self, count: Count) -> Result<(), Flaw<NumberFault>>
         ensures { result ≡ (if count.value == self.now.left + self.now.right then Ok tt else Err (record { cause = Mismatch; column = count.column })) }
     {
-        if count.value == u32::from(self.left) + u32::from(self.right) {
-            Ok(())
-        } else {
-            Err(mismatch(count))
-        }
+        let both = u32::from(self.left) + u32::from(self.right);
+        (count.value == both).then_some(()).ok_or(mismatch(count))
     }
 
     /// Whether a header may come here, with its `p` at a column and such a number of places.
