@@ -1,21 +1,15 @@
--- The steps of the loops over lists of pairs, places and tokens.
-use Rattle.std.proofs.Common.{◌≡◌, ℕ, ◌+◌, ◌<◌, true, cond, ltb, List, ◌∷◌, length, get_or, drop, Ok, Err, Result, sym, ap, ◌∙◌, arith}
+-- The steps of the loop over a list of tokens.
+use Rattle.std.proofs.Common.{◌≡◌, ℕ, ◌+◌, ◌<◌, cond, ltb, List, ◌∷◌, length, get_or, drop, Ok, Err, Result, sym, ap, ◌∙◌, arith}
 use Rattle.std.proofs.lemmas.List.{at_drop_more}
 use Rattle.std.proofs.lemmas.Bool.{lt-ltb, le-ltb}
 use Rattle.places.specs.Bags.{Bag, single, ◌⊕◌}
-use Rattle.places.specs.Sets.{Subset, PlaceRelation, size, with_pair, with_place}
+use Rattle.places.specs.Sets.{size}
 use Rattle.places.specs.Refusals.{Laid}
 use Rattle.places.specs.declared.LayRefusal.{LayRefusal}
 use Rattle.places.specs.declared.LayRefusal.TheVariants.{NoSuchPlace, Full}
 use Rattle.std.specs.Result.{IsErrAnd}
 use Rattle.places.specs.declared.place_bag.PlaceBag.{PlaceBag}
-use Rattle.places.specs.Lists.{meant, with_pairs, with_places, with_tokens}
-
-pub pairs_more : (R S : PlaceRelation) (xs : List (ℕ × ℕ)) (i : ℕ) → i < length xs → S ≡ with_pair R (get_or xs i (0, 0)).0 (get_or xs i (0, 0)).1 true → with_pairs R (drop i xs) ≡ with_pairs S (drop (i + 1) xs)
-pairs_more R S xs i l e = at_drop_more (with_pairs R) xs i (0, 0) l ∙ ap (λ T. with_pairs T (drop (i + 1) xs)) (sym e)
-
-pub places_more : (S T : Subset) (xs : List ℕ) (i : ℕ) → i < length xs → T ≡ with_place S (get_or xs i 0) → with_places S (drop i xs) ≡ with_places T (drop (i + 1) xs)
-places_more S T xs i l e = at_drop_more (with_places S) xs i 0 l ∙ ap (λ U. with_places U (drop (i + 1) xs)) (sym e)
+use Rattle.places.specs.Lists.{meant, with_tokens}
 
 -- one token laid, or refused
 laid_one : (m after : Bag) (x : ℕ) (xs : List ℕ) (done : Unit {0}) → Laid m x (Ok done) after → with_tokens m (x ∷ xs) ≡ with_tokens after xs
