@@ -13,6 +13,7 @@ use names::Name;
 impl<T: Named + Default + Drop, const N: usize> Entries<T, N> {
     /// No entries.
     pub(crate) fn new() -> Self
+        requires { N < 256 }
         ensures { result.entries.items ≡ [] }
     {
         Entries {
@@ -22,7 +23,6 @@ impl<T: Named + Default + Drop, const N: usize> Entries<T, N> {
 
     /// How many entries there are.
     pub(crate) fn len(&self) -> u8
-        requires { N < 256 }
         ensures value { result ≡ length self.now.entries.items }
         ensures few { result ≤ N }
     {
@@ -31,7 +31,6 @@ impl<T: Named + Default + Drop, const N: usize> Entries<T, N> {
 
     /// The number of the entry of a name.
     pub(crate) fn find(&self, name: Name) -> Option<u8>
-        requires { N < 256 }
         ensures { result ≡ position (number_of name) (map T.named self.now.entries.items) }
     {
         find(&self.entries, name)
@@ -39,7 +38,6 @@ impl<T: Named + Default + Drop, const N: usize> Entries<T, N> {
 
     /// Whether an entry has the name.
     pub(crate) fn has(&self, name: Name) -> bool
-        requires { N < 256 }
         ensures { result ≡ has_name (number_of name) (map T.named self.now.entries.items) }
     {
         self.find(name).is_some()
