@@ -230,9 +230,11 @@ fn compare<C: Net, T: Net, L: Net>(
         let c = ask(arcs, question);
         println!(rt; "  {question}: chart {a}, table {b}, arc list {c}, by hand {by_hand}")?;
     }
-    Ok(LINES
-        .iter()
-        .all(|line| is_as_by_hand(chart, table, arcs, line)))
+    Ok(
+        LINES
+            .iter()
+            .all(|line| is_as_by_hand(chart, table, arcs, line)),
+    )
 }
 
 /// Prints the net in its three kinds, and says whether it came out as worked by hand.
