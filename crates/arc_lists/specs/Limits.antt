@@ -26,12 +26,12 @@ not_there P T k t p before a e (inr g) =
     and_right (a.kind == k) (a.transition == t && a.place == p) (and_right (a.transition == t) (a.place == p) (ne_eqb a.place p (λ s. omega arith)))
 
 -- the arcs pass, each beside those before it: read from the front, behind some arcs that were read before
-arcs_pass_after : ℕ → ℕ → List Arc → List Arc → Bool
+unfoldable pub arcs_pass_after : ℕ → ℕ → List Arc → List Arc → Bool
 arcs_pass_after P T before [] = true
 arcs_pass_after P T before (a ∷ rest) = arc_passes P T before a && arcs_pass_after P T (before ++ a ∷ []) rest
 
 -- each arc with its index passes beside those in front of it
-passes_listed : (P T : ℕ) (before xs : List Arc) → list_all (λ (x : ℕ × Arc). arc_passes P T (take x.0 (before ++ xs)) x.1) (enumerate_from (length before) xs) ≡ arcs_pass_after P T before xs
+pub passes_listed : (P T : ℕ) (before xs : List Arc) → list_all (λ (x : ℕ × Arc). arc_passes P T (take x.0 (before ++ xs)) x.1) (enumerate_from (length before) xs) ≡ arcs_pass_after P T before xs
 unfolding arcs_pass_after
 passes_listed P T before [] = refl
 passes_listed P T before (a ∷ rest) =
@@ -43,7 +43,7 @@ passes_listed P T before (a ∷ rest) =
     ap (λ b. arc_passes P T before a && b) (passes_listed P T (before ++ a ∷ []) rest)
 
 -- no arc weighs anything there, and none inhibits
-weight_after : (P T k t p : ℕ) (before arcs : List Arc) → arcs_pass_after P T before arcs ≡ true → Beyond P T t p → weights k t p arcs ≡ 0
+pub weight_after : (P T k t p : ℕ) (before arcs : List Arc) → arcs_pass_after P T before arcs ≡ true → Beyond P T t p → weights k t p arcs ≡ 0
 unfolding arcs_pass_after
 weight_after P T k t p before [] e g = refl
 weight_after P T k t p before (a ∷ rest) e g =
@@ -52,7 +52,7 @@ weight_after P T k t p before (a ∷ rest) e g =
     let later = weight_after P T k t p (before ++ a ∷ []) rest both.1 g in
     sum_by-cons (arc_weight k t p) a rest ∙ omega (arith, here, later)
 
-arc_after : (P T k t p : ℕ) (before arcs : List Arc) → arcs_pass_after P T before arcs ≡ true → Beyond P T t p → some_arc k t p arcs ≡ false
+pub arc_after : (P T k t p : ℕ) (before arcs : List Arc) → arcs_pass_after P T before arcs ≡ true → Beyond P T t p → some_arc k t p arcs ≡ false
 unfolding arcs_pass_after
 arc_after P T k t p before [] e g = refl
 arc_after P T k t p before (a ∷ rest) e g =

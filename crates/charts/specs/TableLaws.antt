@@ -1,12 +1,13 @@
 -- Laws of the tables of a chart: how its lists are read off them. Assumes nothing.
 use Rattle.std.specs.Prelude.{◌≡◌, ℕ, ◌<◌, ◌≤◌, map, length, slice_index_or}
-use Rattle.std.proofs.Common.{ap, arith}
+use Rattle.std.proofs.Common.{sym, ap, ◌∙◌, inl, inr, arith}
 use Rattle.std.proofs.lemmas.List.{get_or-map, get_or_past, length-map}
 use Rattle.std.proofs.lemmas.Simd.{map-map}
+use Rattle.std.proofs.lemmas.Bool.{cases_lt}
 use Rattle.charts.specs.Charts.{chart_view}
 use Rattle.charts.specs.PlaceTables.{places_of}
 use Rattle.charts.specs.Tables.{place_entry, transition_entry}
-use Rattle.charts.specs.Views.{PlaceEntry, TransitionEntry, no_transition, marking_in, place_names_in, transition_at, transition_names, transition_names_in, label_names}
+use Rattle.charts.specs.Views.{PlaceEntry, TransitionEntry, no_place, no_transition, marking_in, place_names_in, transition_at, transition_names, transition_names_in, label_names}
 use Rattle.charts.specs.declared.chart.Chart.{Chart}
 use Rattle.charts.specs.declared.place_table.Place.{Place}
 use Rattle.charts.specs.declared.place_table.PlaceTable.{PlaceTable}
@@ -27,6 +28,16 @@ module _ (t : PlaceTable) where
 
   pub marked_at : (p : ℕ) (d : Place) → p < length t.places.entries.items → marking_in (places_of t) p ≡ (slice_index_or t.places.entries.items p d).marking
   marked_at p d l = ap (λ (e : PlaceEntry). e.marking) (get_or-map place_entry t.places.entries.items p d _ l)
+
+  -- and at each place, also behind the last, where there is no token
+  pub marked_anywhere : (p : ℕ) (d : Place) → d.marking ≡ 0 → marking_in (places_of t) p ≡ (slice_index_or t.places.entries.items p d).marking
+  marked_anywhere p d none = elim (cases_lt p (length t.places.entries.items)) [
+    | inl l ↦ marked_at p d l
+    | inr g ↦
+        let behind : marking_in (places_of t) p ≡ 0 = ap (λ (e : PlaceEntry). e.marking) (get_or_past (places_of t) p no_place (omega (arith, place_count))) in
+        let by_default : (slice_index_or t.places.entries.items p d).marking ≡ d.marking = ap (λ (x : Place). x.marking) (get_or_past t.places.entries.items p d g) in
+        behind ∙ sym none ∙ sym by_default
+  ]
 
 -- the names of a table of transitions
 pub entries_named : (t : TransitionTable) → transition_names_in (transitions_of t) ≡ map (λ (x : Transition). x.name) t.transitions.entries.items
