@@ -12,7 +12,7 @@ use pairing::PairingRefusal;
 use places::PlaceSet;
 
 /// How often a pair stands in a list.
-fn times(pairs: &[(u8, u8)], pair: (u8, u8)) -> usize
+pub fn times(pairs: &[(u8, u8)], pair: (u8, u8)) -> usize
     ensures { result ≡ count_by (λ y. same_pair y pair) pairs.now }
 {
     pairs.iter().filter(|x| **x == pair).count()

@@ -129,7 +129,10 @@ const ALL_STEPPED: [(u8, u8); 64] = four_times![
     (15, 0),
 ];
 
-pub static PAIRINGS: [Example<'static>; 8] = [
+/// How many examples there are.
+pub const EXAMPLE_COUNT: usize = 8;
+
+pub static PAIRINGS: [Example<'static>; EXAMPLE_COUNT] = [
     Example {
         title: "two tokens on p against one each on u and v",
         left_names: &PQ,

@@ -9,10 +9,11 @@ mod print;
 
 use anyhow::anyhow;
 use compare::{pairs_agree, refusal_agrees};
-use examples::{Example, PAIRINGS};
+use examples::{EXAMPLE_COUNT, Example, PAIRINGS};
 use pairing::find_pairing;
 use places::{PlaceBag, PlaceSet, Relation};
 use print::{NamedBag, NamedPairs, NamedRefusal};
+use std::io;
 
 /// Prints the two bags and the relation of an example.
 fn print_question(
@@ -20,7 +21,7 @@ fn print_question(
     example: &Example,
     left: &PlaceBag,
     right: &PlaceBag,
-) -> anyhow::Result<()> {
+) -> io::Result<()> {
     let title = example.title;
     let left = NamedBag {
         names: example.left_names,
@@ -34,24 +35,21 @@ fn print_question(
         example,
         pairs: example.relation,
     };
-    println!(rt; "{title}\n  left:{left}\n  right:{right}\n  relation:{relation}")?;
-    Ok(())
+    println!(rt; "{title}\n  left:{left}\n  right:{right}\n  relation:{relation}")
 }
 
-/// Prints the pairing of two bags in ascending order, or the refusal, and says whether it came out as worked by hand.
+/// Prints the pairing of two bags, or the refusal, and says whether it came out as worked by hand.
 fn print_answer(
     rt: &HostRuntime,
     example: &Example,
     left: &PlaceBag,
     right: &PlaceBag,
-) -> anyhow::Result<bool> {
+) -> io::Result<bool> {
     match find_pairing(&Relation::from(example.relation), left, right) {
         Ok(found) => {
-            let mut pairs = found.as_slice().to_vec(rt.alloc())?;
-            pairs.sort()?;
             let named = NamedPairs {
                 example,
-                pairs: &pairs,
+                pairs: found.as_slice(),
             };
             println!(rt; "  pairing:{named}")?;
             Ok(pairs_agree(found.as_slice(), &example.expected))
@@ -71,11 +69,11 @@ fn print_answer(
 }
 
 /// Prints what was worked out by hand.
-fn print_expected(rt: &HostRuntime, example: &Example) -> anyhow::Result<()> {
+fn print_expected(rt: &HostRuntime, example: &Example) -> io::Result<()> {
     match example.expected {
         Ok(pairs) => {
             let named = NamedPairs { example, pairs };
-            println!(rt; "  by hand:{named}")?;
+            println!(rt; "  by hand:{named}")
         }
         Err(shown) => {
             let named = NamedRefusal {
@@ -84,14 +82,13 @@ fn print_expected(rt: &HostRuntime, example: &Example) -> anyhow::Result<()> {
                 side: shown.side,
                 places: PlaceSet::from(shown.places),
             };
-            println!(rt; "  by hand: {named}")?;
+            println!(rt; "  by hand: {named}")
         }
     }
-    Ok(())
 }
 
 /// Runs one example, prints it, and says whether it came out as worked by hand.
-fn run(rt: &HostRuntime, example: &Example) -> anyhow::Result<bool> {
+fn run(rt: &HostRuntime, example: &Example) -> io::Result<bool> {
     let Ok((left, right)) = example.bags() else {
         return Ok(false);
     };
@@ -107,9 +104,9 @@ fn run(rt: &HostRuntime, example: &Example) -> anyhow::Result<bool> {
 }
 
 fn main(rt: HostRuntime) -> anyhow::Result<()> {
-    let mut outcomes = Vec::new(rt.alloc());
-    for example in &PAIRINGS {
-        outcomes.push(run(&rt, example)?)?;
+    let mut outcomes = [false; EXAMPLE_COUNT];
+    for (agrees, example) in outcomes.iter_mut().zip(&PAIRINGS) {
+        *agrees = run(&rt, example)?;
     }
     let agree = outcomes.iter().filter(|agrees| **agrees).count();
     let differ = outcomes.iter().filter(|agrees| !**agrees).count();

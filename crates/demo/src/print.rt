@@ -1,4 +1,5 @@
 //! What is printed of an example: each struct is a value with the names of its places.
+use crate::compare::times;
 use crate::examples::Example;
 use places::{PlaceBag, PlaceSet, Side};
 use std::fmt;
@@ -32,19 +33,42 @@ impl fmt::Display for NamedBag<'_> {
     }
 }
 
-/// Pairs of a left and a right place of an example.
+/// Pairs of a left and a right place of an example, written in ascending order, whatever their order.
 #[derive(Clone, Copy)]
 pub struct NamedPairs<'a, 'b> {
     pub example: &'a Example<'a>,
     pub pairs: &'b [(u8, u8)],
 }
 
+impl NamedPairs<'_, '_> {
+    /// Writes a pair as often as it is there.
+    fn write_pair<W: fmt::Write>(
+        &self,
+        f: &mut fmt::Formatter<W>,
+        left: u8,
+        right: u8,
+    ) -> fmt::Result {
+        let start = name(self.example.left_names, left);
+        let end = name(self.example.right_names, right);
+        for _ in 0..times(self.pairs, (left, right)) {
+            write!(f, " ({start},{end})")?;
+        }
+        Ok(())
+    }
+
+    /// Writes the pairs of a left place.
+    fn write_from<W: fmt::Write>(&self, f: &mut fmt::Formatter<W>, left: u8) -> fmt::Result {
+        for right in 0..16u8 {
+            self.write_pair(f, left, right)?;
+        }
+        Ok(())
+    }
+}
+
 impl fmt::Display for NamedPairs<'_, '_> {
     fn fmt<W: fmt::Write>(&self, f: &mut fmt::Formatter<W>) -> fmt::Result {
-        for (left, right) in self.pairs {
-            let start = name(self.example.left_names, *left);
-            let end = name(self.example.right_names, *right);
-            write!(f, " ({start},{end})")?;
+        for left in 0..16u8 {
+            self.write_from(f, left)?;
         }
         Ok(())
     }

@@ -201,7 +201,10 @@ const NET_G: NamedNet = NamedNet {
     ],
 };
 
-pub const CASES: [Case; 8] = [
+/// How many cases there are.
+pub const CASE_COUNT: usize = 8;
+
+pub const CASES: [Case; CASE_COUNT] = [
     Case {
         title: "A and B under K",
         left: &NET_A,

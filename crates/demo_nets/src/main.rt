@@ -26,16 +26,16 @@ mod named;
 mod verdicts;
 
 use anyhow::anyhow;
-use cases::CASES;
+use cases::{CASE_COUNT, CASES};
 
 fn main(rt: HostRuntime) -> anyhow::Result<()> {
-    let mut outcomes = Vec::new(rt.alloc());
-    outcomes.push(kinds::run(&rt)?)?;
-    for case in &CASES {
-        outcomes.push(verdicts::run(&rt, case)?)?;
+    let asked = [kinds::run(&rt)?];
+    let mut judged = [false; CASE_COUNT];
+    for (agrees, case) in judged.iter_mut().zip(&CASES) {
+        *agrees = verdicts::run(&rt, case)?;
     }
-    let agree = outcomes.iter().filter(|agrees| **agrees).count();
-    let differ = outcomes.iter().filter(|agrees| !**agrees).count();
+    let agree = asked.iter().chain(&judged).filter(|a| **a).count();
+    let differ = asked.iter().chain(&judged).filter(|a| !**a).count();
     println!(rt; "{agree} as by hand, {differ} not")?;
     if differ > 0 {
         return Err(anyhow!("an example did not come out as by hand"));
