@@ -12,12 +12,13 @@ pub(crate) struct Announced {
 }
 
 /// What the lines so far have said between a left net and a right net of so many places: the header, where it has come;
-/// how many edges; their pairs.
+/// how many edges; their pairs. With them, how many lines there were.
 #[derive(Clone, Copy)]
 pub(crate) struct Reading {
     left: u8,
     right: u8,
     announced: Option<Announced>,
     edges: usize,
+    lines: usize,
     pairs: Relation,
 }

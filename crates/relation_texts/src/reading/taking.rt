@@ -1,7 +1,6 @@
 //! A line, taken after the lines before it.
 ghost use Rattle.std.specs.Prelude.{◌≡◌, ℕ, ◌+◌, ◌<◌, ◌≤◌, ◌==◌, if◌then◌else◌, length, Ok, Err};
 ghost use Rattle.faults.specs.declared.causes.NumberFault.TheVariants.{Mismatch};
-ghost use Rattle.lines.specs.Lines.{lines};
 ghost use Rattle.relation_texts.specs.Forms.{says, then};
 ghost use Rattle.relation_texts.specs.declared.forms.Count.{Count};
 ghost use Rattle.relation_texts.specs.Outcomes.{outcome_of};
@@ -11,7 +10,7 @@ ghost use Rattle.relation_texts.specs.Walk.{edged, finished, headed, is_place, n
 use super::*;
 use crate::forms::{Said, what_is_said};
 use faults::{Flaw, LineFault, NumberFault, TextFault};
-use lines::{LineCursor, WordCursor};
+use lines::WordCursor;
 
 /// The flaw of a number that is not the right one.
 fn mismatch(count: Count) -> Flaw<NumberFault>
@@ -36,17 +35,11 @@ fn place(count: Count, before: u8, places: u8) -> Result<u8, Flaw<NumberFault>>
     }
 }
 
-/// The number of the line behind the last.
-fn line_behind(text: &[u8]) -> usize
-    ensures { result ≡ length (lines text.now) + 1 }
-{
-    LineCursor::of(text).count() + 1
-}
-
 impl Reading {
     /// Before the first line of a text between a left net and a right net of so many places.
     pub(crate) fn between(left: u8, right: u8) -> Reading
         ensures nothing { so_far result ≡ nothing_yet }
+        ensures lines { result.lines ≡ 0 }
         ensures left { result.left ≡ left }
         ensures right { result.right ≡ right }
     {
@@ -55,6 +48,7 @@ impl Reading {
             right,
             announced: None,
             edges: 0,
+            lines: 0,
             pairs: Relation::new(),
         }
     }
@@ -111,9 +105,11 @@ impl Reading {
         requires { self.old.edges < number }
         ensures value { left_by result self.new ≡ (then) (says line.now) (taken self.old.left self.old.right number (so_far self.old)) }
         ensures edges { self.new.edges ≤ self.old.edges + 1 }
+        ensures lines { self.new.lines ≡ number }
         ensures left { self.new.left ≡ self.old.left }
         ensures right { self.new.right ≡ self.old.right }
     {
+        self.lines = number;
         match what_is_said(WordCursor::of(line))? {
             Said::Nothing => {}
             Said::Header {
@@ -142,14 +138,15 @@ impl Reading {
 
     /// What the text says, by the rules that are looked at behind its last line.
     pub(crate) fn finish<'a>(&self, text: &'a [u8]) -> Result<Relation, TextFault<'a>>
-        ensures { outcome_of result ≡ finished text.now (length (lines text.now) + 1) (so_far self.now) }
+        requires { self.now.lines ≤ length text.now }
+        ensures { outcome_of result ≡ finished text.now (self.now.lines + 1) (so_far self.now) }
     {
         let Some(announced) = self.announced else {
             let missing = Flaw {
                 cause: LineFault::HeaderMissing,
                 column: 1,
             };
-            return Err(TextFault::in_line(missing, text, line_behind(text)));
+            return Err(TextFault::in_line(missing, text, self.lines + 1));
         };
         if announced.pairs.value as usize != self.edges {
             return Err(TextFault::in_line(mismatch(announced.pairs).into(), text, announced.line));

@@ -17,4 +17,5 @@ invariant-loop-number l =
       many : next + length (lines_left to_come) ≡ length (lines l.text) + 1;
       room : next + line_room to_come ≤ length l.text + 1;
       edges : l.reading.edges < next;
+      taken : l.reading.lines + 1 ≡ next;
     }
