@@ -9,13 +9,12 @@ ghost use Rattle.places.specs.Sets.{size};
 ghost use Rattle.verdict.specs.ShortLists.{listed};
 ghost use Rattle.verdict.specs.Relating.{pairs_of};
 ghost use Rattle.verdict.specs.Results.{Answers};
-ghost use Rattle.verdict.specs.Search.{mover_of, other_of, related_by};
 
-use crate::answers::find_answer;
+use crate::answers::{find_answer, is_blocked};
 use crate::half::Half;
 use crate::job::Job;
 use crate::matching::related;
-use crate::outline::pile_on;
+use crate::outline::{flows_of, outline_of, pile_on};
 use crate::short_list::ShortList;
 use crate::two_nets::TwoNets;
 use bisimulation::answer_given;
@@ -34,25 +33,27 @@ fn bag_list(bag: &PlaceBag) -> ShortList
     list
 }
 
-/// The answer to the transition of a job and a list of up to four places.
-fn answer_list(job: &Job, ys: ShortList) -> Option<u8>
-    ensures { result ≡ answer_for (mover_of job.now) (other_of job.now) (related_by job.now) job.now.t (listed ys) }
+/// The answer to a transition and a list of up to four places. The lists of the other net's transitions are made only where
+/// the transition and the list are an obligation.
+fn answer_list(half: &Half, t: u8, ys: ShortList) -> Option<u8>
+    ensures { result ≡ answer_for (table_meaning half.now.mover.now) (table_meaning half.now.other.now) (pairs_of half.now.pairs) t (listed ys) }
 {
-    if !related(job.half, job.flows.takes, ys.as_slice()) {
+    if is_blocked(half.mover, t) || !related(half, flows_of(half.mover, t).takes, ys.as_slice()) {
         return None;
     }
-    find_answer(job, ys.as_slice())
+    let outline = outline_of(half.other);
+    let job = Job::of(half, &outline, t)?;
+    find_answer(&job, ys.as_slice())
 }
 
 /// The answer on one side.
 fn answer_half(half: &Half, t: u8, bag: &PlaceBag) -> Option<u8>
     ensures { result ≡ answer_for (table_meaning half.now.mover.now) (table_meaning half.now.other.now) (pairs_of half.now.pairs) t (list_of 16 (bag_of bag.now)) }
 {
-    let job = Job::of(half, t)?;
     if bag.size() > 4 {
         return None;
     }
-    answer_list(&job, bag_list(bag))
+    answer_list(half, t, bag_list(bag))
 }
 
 /// The answer on either side.

@@ -59,7 +59,7 @@ fn answers_with(job: &Job, ys: &[u8], u: u8) -> bool
     ensures { result ≡ answers (mover_of job.now) (other_of job.now) (related_by job.now) job.now.t ys.now u }
 {
     let half = job.half;
-    let flows = half.outline[u as usize];
+    let flows = job.outline[u as usize];
     is_same(flows.takes.as_slice(), ys)
         && half.mover.label(job.t) == half.other.label(u)
         && related(half, job.flows.gives, flows.gives.as_slice())

@@ -4,7 +4,6 @@ ghost use Rattle.places.specs.Meanings.{relation_of};
 ghost use Rattle.verdict.specs.Search.{Faces, Moves};
 
 use super::*;
-use crate::outline::outline_of;
 use crate::pairs::tops;
 use nets::Net;
 use places::Relation;
@@ -20,7 +19,6 @@ impl<'a> Half<'a> {
             other,
             pairs,
             tops: tops(&pairs),
-            outline: outline_of(other),
         }
     }
 

@@ -11,8 +11,8 @@ use Rattle.verdict.proofs.listing.count_side.Goals as goal
 pub loop-t-init : goal.loop-t-init
 loop-t-init c = (c.transitions-t-end.ensures, refl)
 
-pub count_transition-count-requires : goal.count_transition-count-requires
-count_transition-count-requires c =
+pub count_transition-count-requires-clause-room : goal.count_transition-count-requires-clause-room
+count_transition-count-requires-clause-room c =
     let h = c.args.half.now in
     let n = table_meaning h.mover.now in
     omega (arith, c.loop-t.invariant.1, side_few h.side n (table_meaning h.other.now) (pairs_of h.pairs) c.loop-t.t (table_limits h.other.now).few_places (λ t. flow_short n Input t (table_limits h.mover.now)), c.loop-t-test.true, c.transitions-t-end.ensures, (table_limits h.mover.now).few_transitions)

@@ -17,7 +17,7 @@ returns-in_default c =
 pub first_open-requires-clause-room : goal.first_open-requires-clause-room
 first_open-requires-clause-room c =
     let j = c.in-Some.job in
-    omega (arith, c.requires, few_lists ((other_of j).places - 0) c.len-size.result (omega (arith, (table_limits j.half.now.other.now).few_places)) (omega (arith, c.len-size.ensures, items_few j.flows.takes)))
+    omega (arith, c.requires.room, few_lists ((other_of j).places - 0) c.len-size.result (omega (arith, (table_limits j.half.now.other.now).few_places)) (omega (arith, c.len-size.ensures, items_few j.flows.takes)))
 
 pub first_open-requires-clause-known : goal.first_open-requires-clause-known
 first_open-requires-clause-known c z =

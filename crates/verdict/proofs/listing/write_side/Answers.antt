@@ -9,8 +9,8 @@ loop-t-init c =
     let h = c.args.half.now in
     (c.transitions-t-end.ensures, written_none h.side (table_meaning h.mover.now) (table_meaning h.other.now) (pairs_of h.pairs) c.args.start c.args.out.now)
 
-pub write_transition-next-requires : goal.write_transition-next-requires
-write_transition-next-requires c =
+pub write_transition-next-requires-clause-room : goal.write_transition-next-requires-clause-room
+write_transition-next-requires-clause-room c =
     let h = c.args.half.now in
     let n = table_meaning h.mover.now in
     let l : c.loop-t.t < n.transitions = omega (arith, c.transitions-t-end.ensures, c.loop-t-test.true) in

@@ -25,7 +25,7 @@ write_from-requires-clause-room c =
     let j = c.in-Some.job in
     let d = (other_of j).places - 0 in
     let bags = ap (λ p. bags_after (mover_of j) (related_by j) j.t p d 0 c.len.result) c.new.ensures ∙ all_bags (mover_of j) (other_of j) (related_by j) j.t c.len.result d (c.len.ensures ∙ ap length j.taken) (sub-zero (other_of j).places) in
-    omega (arith, c.requires, ap length bags, ap (λ k. length (bags_of j.half.now k)) c.in-Some.ensures.1, ap (λ h. length (bags_of h c.args.t)) c.in-Some.ensures.0)
+    omega (arith, c.requires.room, ap length bags, ap (λ k. length (bags_of j.half.now k)) c.in-Some.ensures.1, ap (λ h. length (bags_of h c.args.t)) c.in-Some.ensures.0)
 
 pub write_from-requires-clause-known : goal.write_from-requires-clause-known
 write_from-requires-clause-known c z =

@@ -15,8 +15,8 @@ loop-t-init c =
     let h = c.args.half.now in
     (c.transitions-t-end.ensures, so_far_none h.side (table_meaning h.mover.now) (table_meaning h.other.now) (pairs_of h.pairs) c.args.start)
 
-pub transition_open-requires : goal.transition_open-requires
-transition_open-requires c =
+pub transition_open-requires-clause-room : goal.transition_open-requires-clause-room
+transition_open-requires-clause-room c =
     let h = c.args.half.now in
     omega (arith, c.requires.room, c.loop-t.invariant.1.few, c.loop-t.invariant.1.counted, c.loop-t-test.true, c.transitions-t-end.ensures, (table_limits h.mover.now).few_transitions)
 
