@@ -38,7 +38,10 @@ fn bag_list(bag: &PlaceBag) -> ShortList
 fn answer_list(half: &Half, t: u8, ys: ShortList) -> Option<u8>
     ensures { result ≡ answer_for (table_meaning half.now.mover.now) (table_meaning half.now.other.now) (pairs_of half.now.pairs) t (listed ys) }
 {
-    if is_blocked(half.mover, t) || !related(half, flows_of(half.mover, t).takes, ys.as_slice()) {
+    if t >= half.mover.transitions()
+        || is_blocked(half.mover, t)
+        || !related(half, flows_of(half.mover, t).takes, ys.as_slice())
+    {
         return None;
     }
     let outline = outline_of(half.other);
